@@ -15,6 +15,7 @@ use Rattle.operation.specs.declared.Operation.{Operation}
 use Rattle.operation.specs.Operation.{opBytes}
 use Rattle.message.specs.declared.Item.{Item}
 use Rattle.message.specs.declared.Commit.{Commit}
+use Rattle.message.specs.Readers.{ItemFits, ItemsFit, none, more}
 use Rattle.message.specs.Message.{invokeString, commitString, chainString, itemBytes, itemsBytes, commitFields, invokeBytes, replyBytes, commitBytes, broadcastBytes, marked, isInvoke, isReply, isCommit, isBroadcast, replyCount}
 
 -- ---- parts written one after the other
@@ -132,3 +133,58 @@ reply-length m e = eqb-true _ _ (and-right (marked 82 69 m && leb 3 (length m) &
 pub reply-count : (m : List ℕ) → isReply m ≡ true → replyCount m ≤ 32
 unfolding isReply
 reply-count m e = leb-true _ _ (and-right (marked 82 69 m && leb 3 (length m)) _ (and-left _ (eqb (length m) (3 + replyCount m * 41)) e))
+
+-- ---- lengths
+pub op-length : (e : Operation) → length (opBytes e) ≡ 8
+unfolding opBytes bigEndian
+op-length e = refl
+
+pub item-length : (i : Item) → length (i .tag) ≡ 32 → length (itemBytes i) ≡ 41
+unfolding itemBytes opBytes bigEndian
+item-length i h = rw h
+
+pub items-length : {is : List Item} → ItemsFit is → length (itemsBytes is) ≡ length is * 41
+unfolding itemsBytes
+items-length none = refl
+items-length (more {i = i} {is = is} f fs) = rw length-append (omega (arith, item-length i (f .tag), items-length fs))
+
+pub invoke-string-length : (e : Operation) (author : ℕ) → length (invokeString e author) ≡ 11
+unfolding invokeString opBytes bigEndian
+invoke-string-length e author = refl
+
+pub commit-string-length : (e : Operation) (author seq : ℕ) (digest : List ℕ) (status : ℕ) → length digest ≡ 32 → length (commitString e author seq digest status) ≡ 48
+unfolding commitString opBytes bigEndian
+commit-string-length e author seq digest status h = rw (length-append digest (status ∷ []), h)
+
+pub chain-string-length : (value : List ℕ) (e : Operation) (seq author : ℕ) → length value ≡ 32 → length (chainString value e seq author) ≡ 45
+unfolding chainString opBytes bigEndian
+chain-string-length value e seq author h = simp (length-append, h)
+
+pub invoke-bytes-length : (i : Item) → length (i .tag) ≡ 32 → length (invokeBytes i) ≡ 43
+unfolding invokeBytes
+invoke-bytes-length i h = rw (item-length i h)
+
+pub fields-length : (k : Commit) → length (k .digest) ≡ 32 → length (k .tag) ≡ 32 → length (commitFields k) ≡ 78
+unfolding commitFields opBytes bigEndian
+fields-length k h t = rw (length-append (k .digest) (k .status ∷ k .tag), h, t)
+
+pub commit-bytes-length : (k : Commit) → length (k .digest) ≡ 32 → length (k .tag) ≡ 32 → length (commitBytes k) ≡ 80
+unfolding commitBytes
+commit-bytes-length k h t = rw (fields-length k h t)
+
+pub broadcast-bytes-length : (k : Commit) → length (k .digest) ≡ 32 → length (k .tag) ≡ 32 → length (broadcastBytes k) ≡ 80
+unfolding broadcastBytes
+broadcast-bytes-length k h t = rw (fields-length k h t)
+
+pub reply-bytes-length : {is : List Item} → ItemsFit is → length (replyBytes is) ≡ 3 + length is * 41
+unfolding replyBytes
+reply-bytes-length fs = omega (arith, items-length fs)
+
+-- ---- a message is the string under its tag, and the tag
+pub invoke-tagged : (i : Item) → invokeString (i .op) (i .author) ++ i .tag ≡ invokeBytes i
+unfolding invokeString invokeBytes itemBytes opBytes bigEndian
+invoke-tagged i = refl
+
+pub commit-tagged : (k : Commit) → commitString (k .op) (k .author) (k .seq) (k .digest) (k .status) ++ k .tag ≡ commitBytes k
+unfolding commitString commitBytes commitFields opBytes bigEndian
+commit-tagged k = rw (append-assoc (k .digest) (k .status ∷ []) (k .tag))
