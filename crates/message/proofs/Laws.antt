@@ -1,8 +1,8 @@
 -- Laws of the definitions of specs/: writing part by part, tests, lengths.
-use Prim.Native.Nat.{ℕ, zero, suc, _+_, _-_, _*_, _<_, _≤_}
+use Prim.Native.Nat.{ℕ, _+_, _*_, _<_, _≤_}
 use mathlib.Core.Path.{_≡_, refl, sym, ap, _∙_}
 use mathlib.Core.List.{List, [], _∷_, _++_, append-nil, append-assoc}
-use mathlib.Core.Bool.{Bool, true, false, cond, _&&_}
+use mathlib.Core.Bool.{true, _&&_}
 use lib.Dec.{leb, eqb}
 use lib.ListN.{length, getD, take, drop, replicate, length-append, length-take, length-drop, drop-of-length-le, take-append-drop}
 use lib.Seq.{take-append-seam, drop-append-add, drop-drop, length-take-le, take-at, take-suc}
@@ -13,9 +13,10 @@ use borrow.Author.Tests.{leb-true, eqb-true}
 use Rattle.slices.specs.Bytes.{put, bigEndian}
 use Rattle.operation.specs.declared.Operation.{Operation}
 use Rattle.operation.specs.Operation.{opBytes}
+use Rattle.operation.proofs.RoundTrip.{and-left, and-right}
 use Rattle.message.specs.declared.Item.{Item}
 use Rattle.message.specs.declared.Commit.{Commit}
-use Rattle.message.specs.Readers.{ItemFits, ItemsFit, none, more}
+use Rattle.message.specs.Readers.{ItemsFit, none, more}
 use Rattle.message.specs.Message.{invokeString, commitString, chainString, itemBytes, itemsBytes, commitFields, invokeBytes, replyBytes, commitBytes, broadcastBytes, marked, isInvoke, isReply, isCommit, isBroadcast, replyCount}
 
 -- ---- parts written one after the other
@@ -74,10 +75,14 @@ unfolding invokeBytes
 invoke-parts z i h = rw (drop-drop 41 2 z)
 
 -- ---- items
+pub items-join : (is js : List Item) → itemsBytes (is ++ js) ≡ itemsBytes is ++ itemsBytes js
+unfolding itemsBytes
+items-join [] js = refl
+items-join (i ∷ is) js = rw (items-join is js) (sym (append-assoc (itemBytes i) (itemsBytes is) (itemsBytes js)))
+
 pub items-more : (is : List Item) (i : Item) → itemsBytes (is ++ (i ∷ [])) ≡ itemsBytes is ++ itemBytes i
 unfolding itemsBytes
-items-more [] i = append-nil (itemBytes i)
-items-more (j ∷ is) i = rw (items-more is i) (sym (append-assoc (itemBytes j) (itemsBytes is) (itemBytes i)))
+items-more is i = items-join is (i ∷ []) ∙ ap (λ (s : List ℕ). itemsBytes is ++ s) (append-nil (itemBytes i))
 
 -- the buffer with k items after its first three bytes
 pub reply-start : (z : List ℕ) (is : List Item) → z ≡ take 3 z ++ itemsBytes (take 0 is) ++ drop (3 + 0 * 41) z
@@ -106,25 +111,33 @@ unfolding replyBytes
 reply-end out is n h = rw (length-take-le n is h, drop-append-add (82 ∷ 69 ∷ n ∷ []) (drop 3 out) (n * 41), drop-drop (n * 41) 3 out)
 
 -- ---- tests
-pub and-left : (a b : Bool) → (a && b) ≡ true → a ≡ true
-and-left true b e = refl
-and-left false b e = e
-
-pub and-right : (a b : Bool) → (a && b) ≡ true → b ≡ true
-and-right true b e = e
-and-right false b e = absurd (let z : _≡_ {A = ℕ} 0 1 = cc e in omega arith)
+pub invoke-mark : (m : List ℕ) → isInvoke m ≡ true → marked 73 78 m ≡ true
+unfolding isInvoke
+invoke-mark m e = and-left (marked 73 78 m) _ e
 
 pub invoke-length : (m : List ℕ) → isInvoke m ≡ true → length m ≡ 43
 unfolding isInvoke
 invoke-length m e = eqb-true _ _ (and-right (marked 73 78 m) _ e)
 
+pub commit-mark : (m : List ℕ) → isCommit m ≡ true → marked 67 79 m ≡ true
+unfolding isCommit
+commit-mark m e = and-left (marked 67 79 m) _ e
+
 pub commit-length : (m : List ℕ) → isCommit m ≡ true → length m ≡ 80
 unfolding isCommit
 commit-length m e = eqb-true _ _ (and-right (marked 67 79 m) _ e)
 
+pub broadcast-mark : (m : List ℕ) → isBroadcast m ≡ true → marked 66 82 m ≡ true
+unfolding isBroadcast
+broadcast-mark m e = and-left (marked 66 82 m) _ e
+
 pub broadcast-length : (m : List ℕ) → isBroadcast m ≡ true → length m ≡ 80
 unfolding isBroadcast
 broadcast-length m e = eqb-true _ _ (and-right (marked 66 82 m) _ e)
+
+pub reply-mark : (m : List ℕ) → isReply m ≡ true → marked 82 69 m ≡ true
+unfolding isReply
+reply-mark m e = and-left (marked 82 69 m) _ (and-left _ _ (and-left _ (eqb (length m) (3 + replyCount m * 41)) e))
 
 pub reply-length : (m : List ℕ) → isReply m ≡ true → length m ≡ 3 + replyCount m * 41
 unfolding isReply

@@ -80,7 +80,7 @@ pub op-write : (s : List ℕ) (i : ℕ) → ((j : ℕ) → getD s j 0 < 256) →
 unfolding opAt opBytes
 op-write s i b h =
     let f : getD s (i + 4) 0 ∷ getD s (i + 5) 0 ∷ getD s (i + 6) 0 ∷ getD s (i + 7) 0 ∷ [] ≡ take 4 (drop (i + 4) s)
-        = sym (rw (← add-assoc i 4 1, ← add-assoc i 4 2, ← add-assoc i 4 3) (four-at s (i + 4) (omega arith))) in
+    = sym (rw (← add-assoc i 4 1, ← add-assoc i 4 2, ← add-assoc i 4 3) (four-at s (i + 4) (omega arith))) in
     rw (word-write s i b (omega arith), f, ← drop-drop 4 i s) (sym (take-add 4 4 (drop i s)))
 
 -- ---- tests

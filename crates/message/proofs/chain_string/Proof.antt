@@ -1,78 +1,51 @@
-use Prim.Native.Nat.{ℕ, _+_, _*_, _-_, _≤_}
-use mathlib.Core.Path.{_≡_, refl, sym, ap, _∙_}
-use mathlib.Core.List.{List, [], _∷_, _++_, append-nil, append-assoc}
-use native.Mathlib.Omega.{arith}
-use Rattle.operation.specs.Operation.{opBytes, opAt, noOp}
-use Rattle.slices.specs.Bytes.{put, bigEndian}
-use lib.ListN.{length, getD, take, drop, replicate}
-use Rattle.message.proofs.Laws.{put-next, part-all, front-parts, chain-parts, item-parts, commit-parts, invoke-parts}
-use Rattle.message.specs.Message.{invokeString, commitString, chainString, itemBytes, itemsBytes, commitFields, invokeBytes, replyBytes, commitBytes, broadcastBytes, marked, isInvoke, isReply, isCommit, isBroadcast, itemAt, commitOf, replyCount}
+use Rattle.message.proofs.Laws.{chain-parts}
+use Rattle.message.specs.Message.{chainString}
 use borrow.Author.Needs.{needs}
 use Rattle.message.proofs.chain_string.Statement.{statement}
 use Rattle.message.proofs.chain_string.Tie as tie
-use Rattle.message.proofs.chain_string.Reads as reads
-use Rattle.message.proofs.chain_string.Lts as lts
-use Rattle.operation.proofs.op_bytes.Reads as op-bytes-reads
-use Rattle.slices.proofs.copy_to.Reads as copy-to-reads
-use Rattle.slices.proofs.word_bytes.Reads as word-bytes-reads
 
--- src/lib.rt:86:13
 op-bytes-requires : tie.Need-op-bytes-requires
 op-bytes-requires c κs = search needs
 
--- src/lib.rt:87:13
 word-bytes-requires : tie.Need-word-bytes-requires
 word-bytes-requires c κs = search needs
 
--- src/lib.rt:88:21
 slice-aggregate-copy-to : tie.Need-slice-aggregate-copy-to
 slice-aggregate-copy-to c = search needs
 
--- src/lib.rt:88:32
 slice-aggregate-copy-to-2 : tie.Need-slice-aggregate-copy-to-2
 slice-aggregate-copy-to-2 c = search needs
 
--- src/lib.rt:88:5
 copy-to-requires : tie.Need-copy-to-requires
 copy-to-requires c κs = search needs
 
--- src/lib.rt:89:21
 slice-aggregate-copy-to-3 : tie.Need-slice-aggregate-copy-to-3
 slice-aggregate-copy-to-3 c = search needs
 
--- src/lib.rt:89:33
 slice-aggregate-copy-to-4 : tie.Need-slice-aggregate-copy-to-4
 slice-aggregate-copy-to-4 c = search needs
 
--- src/lib.rt:89:5
 copy-to-requires-2 : tie.Need-copy-to-requires-2
 copy-to-requires-2 c κs = search needs
 
--- src/lib.rt:90:21
 slice-aggregate-copy-to-5 : tie.Need-slice-aggregate-copy-to-5
 slice-aggregate-copy-to-5 c = search needs
 
--- src/lib.rt:90:33
 slice-aggregate-copy-to-6 : tie.Need-slice-aggregate-copy-to-6
 slice-aggregate-copy-to-6 c = search needs
 
--- src/lib.rt:90:5
 copy-to-requires-3 : tie.Need-copy-to-requires-3
 copy-to-requires-3 c κs = search needs
 
--- src/lib.rt:91:21
 slice-aggregate-copy-to-7 : tie.Need-slice-aggregate-copy-to-7
 slice-aggregate-copy-to-7 c = search needs
 
--- src/lib.rt:91:33
 slice-aggregate-copy-to-8 : tie.Need-slice-aggregate-copy-to-8
 slice-aggregate-copy-to-8 c = search needs
 
--- src/lib.rt:91:5
 copy-to-requires-4 : tie.Need-copy-to-requires-4
 copy-to-requires-4 c κs = search needs
 
--- src/lib.rt:82:1
 returns : tie.Need-returns
 unfolding chainString
 returns c =

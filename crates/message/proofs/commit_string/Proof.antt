@@ -1,16 +1,11 @@
-use Rattle.message.specs.Message.{invokeString, commitString, chainString, itemBytes, itemsBytes, commitFields, invokeBytes, replyBytes, commitBytes, broadcastBytes, marked, isInvoke, isReply, isCommit, isBroadcast, itemAt, commitOf, replyCount}
+use Rattle.message.specs.Message.{commitString}
 use borrow.Author.Needs.{needs}
 use Rattle.message.proofs.commit_string.Statement.{statement}
 use Rattle.message.proofs.commit_string.Tie as tie
-use Rattle.message.proofs.commit_string.Reads as reads
-use Rattle.message.proofs.commit_string.Lts as lts
-use Rattle.message.proofs.front.Reads as front-reads
 
--- src/lib.rt:78:5
 front-requires : tie.Need-front-requires
 front-requires c κs = search needs
 
--- src/lib.rt:75:1
 returns : tie.Need-returns
 unfolding commitString
 returns c = search needs

@@ -1,78 +1,50 @@
-use Rattle.message.proofs.Laws.{put-next, part-all, front-parts, chain-parts, item-parts, commit-parts, invoke-parts}
-use Prim.Native.Nat.{ℕ, _+_, _*_, _-_, _≤_}
-use mathlib.Core.Path.{_≡_, refl, sym, ap, _∙_}
-use mathlib.Core.List.{List, [], _∷_, _++_, append-nil, append-assoc}
-use native.Mathlib.Omega.{arith}
-use Rattle.operation.specs.Operation.{opBytes, opAt, noOp}
-use Rattle.slices.specs.Bytes.{put, bigEndian}
-use lib.ListN.{length, getD, take, drop, replicate}
-use Rattle.message.proofs.Laws.{put-next, two-parts, three-parts, four-parts}
+use Rattle.message.proofs.Laws.{front-parts}
 use borrow.Author.Needs.{needs}
 use Rattle.message.proofs.front.Statement.{statement}
 use Rattle.message.proofs.front.Tie as tie
-use Rattle.message.proofs.front.Reads as reads
-use Rattle.message.proofs.front.Lts as lts
-use Rattle.message.proofs.head.Reads as head-reads
-use Rattle.slices.proofs.copy_to.Reads as copy-to-reads
-use Rattle.slices.proofs.word_bytes.Reads as word-bytes-reads
 
--- src/lib.rt:58:13
 head-requires : tie.Need-head-requires
 head-requires c κs = search needs
 
--- src/lib.rt:59:13
 word-bytes-requires : tie.Need-word-bytes-requires
 word-bytes-requires c κs = search needs
 
--- src/lib.rt:60:21
 slice-aggregate-copy-to : tie.Need-slice-aggregate-copy-to
 slice-aggregate-copy-to c = search needs
 
--- src/lib.rt:60:32
 slice-aggregate-copy-to-2 : tie.Need-slice-aggregate-copy-to-2
 slice-aggregate-copy-to-2 c = search needs
 
--- src/lib.rt:60:5
 copy-to-requires : tie.Need-copy-to-requires
 copy-to-requires c κs = search needs
 
--- src/lib.rt:61:21
 slice-aggregate-copy-to-3 : tie.Need-slice-aggregate-copy-to-3
 slice-aggregate-copy-to-3 c = search needs
 
--- src/lib.rt:61:33
 slice-aggregate-copy-to-4 : tie.Need-slice-aggregate-copy-to-4
 slice-aggregate-copy-to-4 c = search needs
 
--- src/lib.rt:61:5
 copy-to-requires-2 : tie.Need-copy-to-requires-2
 copy-to-requires-2 c κs = search needs
 
--- src/lib.rt:62:21
 slice-aggregate-copy-to-5 : tie.Need-slice-aggregate-copy-to-5
 slice-aggregate-copy-to-5 c = search needs
 
--- src/lib.rt:62:33
 slice-aggregate-copy-to-6 : tie.Need-slice-aggregate-copy-to-6
 slice-aggregate-copy-to-6 c = search needs
 
--- src/lib.rt:62:5
 copy-to-requires-3 : tie.Need-copy-to-requires-3
 copy-to-requires-3 c κs = search needs
 
--- src/lib.rt:63:21
 slice-aggregate-copy-to-7 : tie.Need-slice-aggregate-copy-to-7
 slice-aggregate-copy-to-7 c = search needs
 
--- src/lib.rt:63:33
 slice-aggregate-copy-to-8 : tie.Need-slice-aggregate-copy-to-8
 slice-aggregate-copy-to-8 c = search needs
 
--- src/lib.rt:63:5
 copy-to-requires-4 : tie.Need-copy-to-requires-4
 copy-to-requires-4 c κs = search needs
 
--- src/lib.rt:54:1
 returns : tie.Need-returns
 returns c =
     let a = c .before .before .before .before .before .before .before .before .before .before .before .before .before .before .before .before .before .before .args in

@@ -1,16 +1,11 @@
-use Rattle.message.specs.Message.{invokeString, commitString, chainString, itemBytes, itemsBytes, commitFields, invokeBytes, replyBytes, commitBytes, broadcastBytes, marked, isInvoke, isReply, isCommit, isBroadcast, itemAt, commitOf, replyCount}
+use Rattle.message.specs.Message.{isCommit}
 use borrow.Author.Needs.{needs}
 use Rattle.message.proofs.is_commit.Statement.{statement}
 use Rattle.message.proofs.is_commit.Tie as tie
-use Rattle.message.proofs.is_commit.Reads as reads
-use Rattle.message.proofs.is_commit.Lts as lts
-use Rattle.message.proofs.is_marked.Reads as is-marked-reads
 
--- src/lib.rt:127:5
 is-marked-requires : tie.Need-is-marked-requires
 is-marked-requires c κs = search needs
 
--- src/lib.rt:124:1
 returns : tie.Need-returns
 unfolding isCommit
 returns c = rw (c .is-marked .ensures)

@@ -1,16 +1,11 @@
-use Rattle.message.specs.Message.{invokeString, commitString, chainString, itemBytes, itemsBytes, commitFields, invokeBytes, replyBytes, commitBytes, broadcastBytes, marked, isInvoke, isReply, isCommit, isBroadcast, itemAt, commitOf, replyCount}
+use Rattle.message.specs.Message.{isInvoke}
 use borrow.Author.Needs.{needs}
 use Rattle.message.proofs.is_invoke.Statement.{statement}
 use Rattle.message.proofs.is_invoke.Tie as tie
-use Rattle.message.proofs.is_invoke.Reads as reads
-use Rattle.message.proofs.is_invoke.Lts as lts
-use Rattle.message.proofs.is_marked.Reads as is-marked-reads
 
--- src/lib.rt:109:5
 is-marked-requires : tie.Need-is-marked-requires
 is-marked-requires c κs = search needs
 
--- src/lib.rt:106:1
 returns : tie.Need-returns
 unfolding isInvoke
 returns c = rw (c .is-marked .ensures)

@@ -1,15 +1,10 @@
 use borrow.Author.Needs.{needs}
 use Rattle.message.proofs.no_commit.Statement.{statement}
 use Rattle.message.proofs.no_commit.Tie as tie
-use Rattle.message.proofs.no_commit.Reads as reads
-use Rattle.message.proofs.no_commit.Lts as lts
-use Rattle.message.proofs.no_op.Reads as no-op-reads
 
--- src/lib.rt:199:9
 no-op-requires : tie.Need-no-op-requires
 no-op-requires c κs = search needs
 
--- src/lib.rt:196:1
 returns : tie.Need-returns
 returns c = rw (c .no-op .ensures)
 

@@ -1,15 +1,10 @@
 use borrow.Author.Needs.{needs}
 use Rattle.message.proofs.no_item.Statement.{statement}
 use Rattle.message.proofs.no_item.Tie as tie
-use Rattle.message.proofs.no_item.Reads as reads
-use Rattle.message.proofs.no_item.Lts as lts
-use Rattle.message.proofs.no_op.Reads as no-op-reads
 
--- src/lib.rt:190:9
 no-op-requires : tie.Need-no-op-requires
 no-op-requires c κs = search needs
 
--- src/lib.rt:187:1
 returns : tie.Need-returns
 returns c = rw (c .no-op .ensures)
 

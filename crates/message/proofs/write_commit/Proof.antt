@@ -1,20 +1,14 @@
-use Rattle.message.specs.Message.{invokeString, commitString, chainString, itemBytes, itemsBytes, commitFields, invokeBytes, replyBytes, commitBytes, broadcastBytes, marked, isInvoke, isReply, isCommit, isBroadcast, itemAt, commitOf, replyCount}
+use Rattle.message.specs.Message.{commitBytes}
 use borrow.Author.Needs.{needs}
 use Rattle.message.proofs.write_commit.Statement.{statement}
 use Rattle.message.proofs.write_commit.Tie as tie
-use Rattle.message.proofs.write_commit.Reads as reads
-use Rattle.message.proofs.write_commit.Lts as lts
-use Rattle.message.proofs.write_marked.Reads as write-marked-reads
 
--- src/lib.rt:300:5
 write-marked-requires : tie.Need-write-marked-requires
 write-marked-requires c κs = search needs
 
--- src/lib.rt:296:1
 same-length : tie.Need-same-length
 same-length c = search needs
 
--- src/lib.rt:296:1
 returns : tie.Need-returns
 unfolding commitBytes
 returns c = search needs
