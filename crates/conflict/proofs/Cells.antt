@@ -1,17 +1,19 @@
 -- A conflict is a conflict among the operations on one cell.
-use Prim.Native.Nat.{ℕ, _<_, _≤_}
+use Prim.Native.Nat.{ℕ, suc, _+_, _<_, _≤_}
 use mathlib.Core.Path.{_≡_, refl, sym, ap, ap₂, _∙_, subst, subst₂}
 use mathlib.Core.Bool.{Bool, true, false, cond}
-use mathlib.Core.List.{List, [], _∷_, _++_, map}
+use mathlib.Core.List.{List, [], _∷_, _++_, map, append-nil}
+use mathlib.Core.Logic.{_⊎_, inl, inr}
 use native.Mathlib.Decide.{ℕ-discrete, decLt}
 use native.Mathlib.Omega.{arith}
-use lib.ListN.{getD, set, length, List·getD-eq-default}
-use lib.Seq.{getD-set-same, getD-set-other}
+use native.Mathlib.Numerals.{add-one}
+use lib.ListN.{getD, set, take, length, length-append, List·getD-eq-default}
+use lib.Seq.{getD-set-same, getD-set-other, length-take-le, take-suc-set, take-all}
 use lib.Dec.{eqb}
 use borrow.Author.Tests.{eq-eqb, ne-eqb}
 use Rattle.operation.specs.declared.Operation.{Operation}
 use Rattle.operation.specs.Operation.{Response, value, response, after, responseOn}
-use Rattle.operation.proofs.Laws.{after-length}
+use Rattle.operation.proofs.Laws.{noOp, take-more, after-length}
 use Rattle.conflict.specs.Conflict.{Turn, own, other, responses, Interleaving, done, leave, theirs, ours, Conflict}
 use Rattle.conflict.specs.Reach.{Differs, here, step, skip, runs, onCell}
 use Rattle.conflict.proofs.Meaning.{alone}
@@ -120,6 +122,10 @@ module _ {S : Type 0} (val : Operation → S → S) (res : Operation → S → R
   no-own (skip d) = no-own d
   no-own (runs d) = no-own d
 
+  no-other : {v u : S} {ws : List Operation} → Differs val res v u [] ws → v ≡ u → ⊥
+  no-other (here {w = w} n) p = n (ap (res w) p)
+  no-other (step {w = w} d) p = no-other d (ap (val w) p)
+
   one-more : (o : Operation) (os os′ : List Operation) → ((v u : S) (ws : List Operation) → Differs val res v u os ws → Differs val res v u os′ ws)
       → {v u : S} {ws : List Operation} → Differs val res v u (o ∷ os) ws → Differs val res v u (o ∷ os′) ws
   one-more o os os′ f (here n) = here n
@@ -175,3 +181,51 @@ pub on-a-cell : (n : ℕ) (s : List ℕ) (os ws : List Operation) → length s �
     → (k : ℕ) × (k < n) × Differs value response (getD s k 0) (getD s k 0) (onCell k os) (onCell k ws)
 unfolding Conflict
 on-a-cell n s os ws ls (t, x, f) = down n (differs x f) ls ls
+
+-- The operations on a cell, one by one.
+on-more : (k : ℕ) (xs : List Operation) (e : Operation) → onCell k (xs ++ (e ∷ [])) ≡ onCell k xs ++ onCell k (e ∷ [])
+unfolding onCell
+on-more k [] e = refl
+on-more k (x ∷ xs) e = go (ℕ-discrete (x .cell) k) (on-more k xs e)
+  where
+    go : Dec (x .cell ≡ k) → onCell k (xs ++ (e ∷ [])) ≡ onCell k xs ++ onCell k (e ∷ [])
+        → cond (eqb (x .cell) k) (x ∷ onCell k (xs ++ (e ∷ []))) (onCell k (xs ++ (e ∷ []))) ≡ cond (eqb (x .cell) k) (x ∷ onCell k xs) (onCell k xs) ++ onCell k (e ∷ [])
+    go (yes p) q = rw (eq-eqb (x .cell) k p, q)
+    go (no n) q = rw (ne-eqb (x .cell) k n, q)
+
+pub on-take : (k : ℕ) (ops : List Operation) (i : ℕ) → i < length ops → getD ops i noOp .cell ≡ k
+    → onCell k (take (i + 1) ops) ≡ onCell k (take i ops) ++ (getD ops i noOp ∷ [])
+unfolding onCell
+on-take k ops i h p =
+    rw (take-more ops i h, on-more k (take i ops) (getD ops i noOp), on-cons k (getD ops i noOp) [] p)
+
+pub off-take : (k : ℕ) (ops : List Operation) (i : ℕ) → i < length ops → (getD ops i noOp .cell ≡ k → ⊥) → onCell k (take (i + 1) ops) ≡ onCell k (take i ops)
+unfolding onCell
+off-take k ops i h n =
+    rw (take-more ops i h, on-more k (take i ops) (getD ops i noOp), off-cons k (getD ops i noOp) [] n, append-nil (onCell k (take i ops)))
+
+pub count-more : (k : ℕ) (ops : List Operation) (i : ℕ) → i < length ops → getD ops i noOp .cell ≡ k
+    → length (onCell k (take (i + 1) ops)) ≡ length (onCell k (take i ops)) + 1
+count-more k ops i h p = ap length (on-take k ops i h p) ∙ length-append (onCell k (take i ops)) (getD ops i noOp ∷ [])
+
+pub put-more : (l xs : List Operation) (c : ℕ) (e : Operation) → c < length l → take c l ≡ xs → take (c + 1) (set l c e) ≡ xs ++ (e ∷ [])
+put-more l xs c e h p = rw (add-one c, ← p) (take-suc-set l c e h)
+
+pub front : (c : ℕ) (l xs : List Operation) → c ≤ length l → take c l ≡ xs → take (length xs) l ≡ xs
+front c l xs h p = let q : length xs ≡ c = ap length (sym p) ∙ length-take-le c l h in rw q p
+
+-- A cell that no own operation, or none of the others', touches.
+empty : (l : List Operation) → length l ≡ 0 → l ≡ []
+empty [] h = refl
+empty (x ∷ l) h = absurd (omega arith)
+
+pub untouched-own : (v : ℕ) (os ws : List Operation) → length ws ≡ 0 → Differs value response v v os ws → ⊥
+untouched-own v os ws h d = no-own value response (rw (empty ws h) at d)
+
+pub untouched-other : (v : ℕ) (os ws : List Operation) → length os ≡ 0 → Differs value response v v os ws → ⊥
+untouched-other v os ws h d = no-other value response (rw (empty os h) at d) refl
+
+-- A number of elements above all means all.
+pub clamped : (l : List Operation) (n r : ℕ) → length l ≡ 32 → (r ≡ n) ⊎ ((r ≡ 32) × (32 ≤ n)) → take r l ≡ take n l
+clamped l n r h (inl p) = ap (λ i. take i l) p
+clamped l n r h (inr (p, q)) = take-all r l (omega arith) ∙ sym (take-all n l (omega arith))

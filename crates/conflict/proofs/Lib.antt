@@ -1,2 +1,4 @@
 pub mod Meaning
 pub mod Cells
+pub mod Marked
+pub mod Reach

@@ -97,13 +97,7 @@ fn first_marks(start: u8) -> [Marks; 33]
 
 // Whether some interleaving makes an own response differ, where all operations are on one cell. reach[j] has the
 // values that are reached with j own operations run, the own responses so far being as they are alone.
-fn conflict_at(
-    start: u8,
-    others: [Operation; 32],
-    n: usize,
-    own: [Operation; 32],
-    m: usize,
-) -> bool
+fn conflict_at(start: u8, others: [Operation; 32], n: usize, own: [Operation; 32], m: usize) -> bool
     requires { ⌜ (n ≤ 32) × (m ≤ 32) ⌝ }
     ensures { λ r. ⌜ (r ≡ true) ↔ Differs value response start start (take n others) (take m own) ⌝ }
 {
