@@ -14,7 +14,7 @@ use Rattle.sha256.specs.Sha256.{isByte, zeroCount, padding, pad, blockCo
 use Rattle.sha256.specs.Inner.{countOf}
 use Rattle.sha256_core.specs.declared.State.{State}
 
-abbrev zeros : ℕ → List ℕ
+abbrev pub zeros : ℕ → List ℕ
 zeros n = replicate n 0
 
 zeros-length : (n : ℕ) → length (zeros n) ≡ n
@@ -71,7 +71,7 @@ take-zeros zero k h = refl
 take-zeros (suc n) zero h = absurd (omega arith)
 take-zeros (suc n) (suc k) h = ap (λ (l : List ℕ). 0 ∷ l) (take-zeros n k (omega arith))
 
-drop-zeros : (n k l : ℕ) → n + k ≡ l → drop n (zeros l) ≡ zeros k
+pub drop-zeros : (n k l : ℕ) → n + k ≡ l → drop n (zeros l) ≡ zeros k
 drop-zeros zero k l e = let f : l ≡ k = omega arith in rw f
 drop-zeros (suc n) k zero e = absurd (omega arith)
 drop-zeros (suc n) k (suc l) e = drop-zeros n k l (omega arith)
