@@ -11,7 +11,7 @@ use lib.Seq.{take-suc}
 use Rattle.slices.specs.Bytes.{all, put}
 use Rattle.sha256.specs.Sha256.{isByte, sha256}
 use Rattle.sha256.proofs.Padding.{zeros, drop-zeros, sha256-length, sha256-bytes}
-use Rattle.hmac.specs.Hmac.{filled, xored, hmac}
+use Rattle.hmac.specs.Hmac.{filled, blockKey, xored, hmac}
 
 -- a key put into a block of zeros
 pub filled-is : (k : List ℕ) → length k ≤ 64 → put (zeros 64) 0 k ≡ filled k
@@ -30,3 +30,13 @@ hmac-length key m = sha256-length _
 pub hmac-bytes : (key m : List ℕ) → all isByte (hmac key m) ≡ true
 unfolding hmac
 hmac-bytes key m = sha256-bytes _
+
+-- the tag in steps
+pub hmac-is : (key m : List ℕ) {k ipad inner opad r : List ℕ} → k ≡ blockKey key
+    → ipad ≡ xored 0x36 k
+    → inner ≡ sha256 (ipad ++ m)
+    → opad ≡ xored 0x5c k
+    → r ≡ sha256 (opad ++ inner)
+    → r ≡ hmac key m
+unfolding hmac
+hmac-is key m p q e f g = rw (g, f, e, q, p)

@@ -1,3 +1,5 @@
+use native.Mathlib.Omega.{arith}
+use lib.ListN.{length}
 use Prim.Native.Nat.{_-_}
 use borrow.Author.Tests.{le-leb, lt-leb}
 use Rattle.hmac.specs.Hmac.{blockKey}
@@ -10,7 +12,7 @@ fill-requires c κs = search needs
 
 returns : tie.Need-returns
 unfolding blockKey
-returns c = rw (le-leb _ _ (c .before .if1 .taken)) (c .fill .ensures)
+returns c = rw (le-leb (length (c .before .before .before .args .key .now)) 64 (omega arith)) (c .fill .ensures)
 
 digest-of-requires : tie.Need-digest-of-requires
 digest-of-requires c κs = search needs
@@ -23,7 +25,7 @@ fill-requires-2 c κs = search needs
 
 returns-2 : tie.Need-returns-2
 unfolding blockKey
-returns-2 c = rw (lt-leb _ _ (c .before .before .before .if1 .left)) (cc)
+returns-2 c = rw (lt-leb (length (c .before .before .before .before .before .args .key .now)) 64 (omega arith)) (cc)
 
 pub block-key-spec : {M : Type 1} → statement M
 block-key-spec =

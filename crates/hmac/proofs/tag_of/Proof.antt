@@ -1,4 +1,4 @@
-use Rattle.hmac.specs.Hmac.{hmac}
+use Rattle.hmac.proofs.Laws.{hmac-is}
 use borrow.Author.Needs.{needs}
 use Rattle.hmac.proofs.tag_of.Statement.{statement}
 use Rattle.hmac.proofs.tag_of.Tie as tie
@@ -28,8 +28,9 @@ digest-after-requires-2 : tie.Need-digest-after-requires-2
 digest-after-requires-2 c κs = search needs
 
 returns : tie.Need-returns
-unfolding hmac
-returns c = cc
+returns c =
+    let a = c .before .before .before .before .before .before .before .before .before .before .before .before .args in
+    hmac-is (a .key .now) (a .m .now) (c .before .before .before .before .before .before .before .before .before .block-key .ensures) (c .before .before .before .before .before .before .before .xor-each .ensures) (c .before .before .before .before .before .digest-after .ensures) (c .before .before .before .xor-each2 .ensures) (c .digest-after2 .ensures)
 
 pub tag-of-spec : {M : Type 1} → statement M
 tag-of-spec =
