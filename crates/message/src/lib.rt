@@ -134,7 +134,7 @@ pub fn is_broadcast(m: &[u8]) -> bool
 }
 
 // The 32 bytes at `i`.
-fn part(m: &[u8], i: usize) -> [u8; 32]
+pub fn part(m: &[u8], i: usize) -> [u8; 32]
     requires { ⌜ i + 32 ≤ length (now m) ⌝ }
     ensures { λ r. ⌜ r ≡ take 32 (drop i (now (m .entry))) ⌝ }
 {

@@ -1,8 +1,8 @@
 -- The client's state (document 01: the van's book): fresh, in range (check 8), refused, halted; and checks in order.
 use Prim.Native.Nat.{ℕ, zero, suc, _+_, _-_, _*_}
-use mathlib.Core.List.{List, [], _∷_}
+use mathlib.Core.List.{List, [], _∷_, _++_}
 use mathlib.Core.Bool.{Bool, true, cond, _&&_, _||_}
-use lib.ListN.{take, drop, replicate}
+use lib.ListN.{length, take, drop, replicate}
 use lib.Dec.{leb, eqb}
 use Rattle.slices.specs.Bytes.{all, isZero}
 use Rattle.operation.specs.declared.Operation.{Operation}
@@ -117,3 +117,16 @@ halt r n = record { replica = haltedAt r n; says = halted n }
 -- "Numbers below 20 and from 30 are refusals …. 20 to 25 are halts"
 abbrev pub stop : Replica → ℕ → After
 stop r n = cond (leb 20 n && leb n 25) (halt r n) (refuse r n)
+
+-- ---- a call's step: the replica after it and what it tells, and the bytes written to the front of the buffer
+pub record Step : Type 0 where
+  pub after : After
+  pub wrote : List ℕ
+
+-- the buffer after a call that wrote these bytes: no byte past them is changed
+abbrev pub over : List ℕ → List ℕ → List ℕ
+over bytes out = bytes ++ drop (length bytes) out
+
+-- a call that a check stopped: nothing is written
+abbrev pub stopStep : Replica → ℕ → Step
+stopStep r n = record { after = stop r n; wrote = [] }
