@@ -4,7 +4,7 @@ use mathlib.Core.Path.{_≡_, refl, sym, ap, _∙_}
 use mathlib.Core.List.{List, [], _∷_, _++_, append-nil, append-assoc}
 use mathlib.Core.Bool.{true, _&&_}
 use lib.Dec.{leb, eqb}
-use lib.ListN.{length, getD, take, drop, replicate, length-append, length-drop}
+use lib.ListN.{length, getD, take, drop, replicate, length-append, length-take, length-drop}
 use lib.Seq.{take-at, drop-at, getD-at, take-all, take-add, take-length, take-suc, drop-drop, drop-cons, drop-append-add, split-at, length-take-le}
 use native.Mathlib.Nat.{add-zero, add-assoc}
 use native.Mathlib.Numerals.{add-one}
@@ -13,7 +13,7 @@ use borrow.Author.Tests.{eqb-true, le-leb, eq-eqb}
 use Rattle.slices.specs.Bytes.{bigEndian, wordAt}
 use Rattle.operation.specs.declared.Operation.{Operation}
 use Rattle.operation.specs.Operation.{opBytes, opAt}
-use Rattle.operation.proofs.RoundTrip.{word-back, word-write, get-skip, op-skip, op-front, op-read, op-write, and-left, and-right}
+use Rattle.operation.proofs.RoundTrip.{word-back, word-write, get-skip, op-skip, op-front, op-read, op-write, op-fits, word-fits, and-left, and-right}
 use Rattle.message.specs.declared.Item.{Item}
 use Rattle.message.specs.declared.Commit.{Commit}
 use Rattle.message.specs.Readers.{ItemFits, CommitFits, ItemsFit, none, more, noItem}
@@ -188,6 +188,21 @@ reply-write m b e =
     let w : take (replyCount m * 41) (drop 3 m) ≡ drop 3 m = take-all (replyCount m * 41) (drop 3 m) (simp length-drop (omega arith)) in
     let t : replyCount m ∷ drop 3 m ≡ drop 2 m = sym (drop-cons m 2 0 (omega arith)) in
     rw (items-count m (replyCount m), items-write m (replyCount m) b (omega arith), w, t) (sym (marked-split 82 69 m (reply-mark m e)))
+
+-- ---- what is read fits
+pub item-fits : (m : List ℕ) (i : ℕ) → ((j : ℕ) → getD m j 0 < 256) → i + 41 ≤ length m → ItemFits (itemAt m i)
+unfolding itemAt
+item-fits m i b h = record { count = op-fits m i b; tag = simp (length-take, length-drop) (omega arith) }
+
+pub commit-fits : (m : List ℕ) → ((j : ℕ) → getD m j 0 < 256) → 80 ≤ length m → CommitFits (commitOf m)
+unfolding commitOf
+commit-fits m b h =
+    record {
+      count = op-fits m 2 b;
+      seq = word-fits m 11 b;
+      digest = simp (length-take, length-drop) (omega arith);
+      tag = simp (length-take, length-drop) (omega arith);
+    }
 
 -- ---- the strings show their fields
 pub invoke-string-fields : (e f : Operation) (a b : ℕ) → e .count < 2 ^ 32 → f .count < 2 ^ 32 → invokeString e a ≡ invokeString f b → (e ≡ f) × (a ≡ b)

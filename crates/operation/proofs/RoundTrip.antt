@@ -83,6 +83,15 @@ op-write s i b h =
     = sym (rw (← add-assoc i 4 1, ← add-assoc i 4 2, ← add-assoc i 4 3) (four-at s (i + 4) (omega arith))) in
     rw (word-write s i b (omega arith), f, ← drop-drop 4 i s) (sym (take-add 4 4 (drop i s)))
 
+-- what is read fits
+pub word-fits : (s : List ℕ) (i : ℕ) → ((j : ℕ) → getD s j 0 < 256) → wordAt s i < 2 ^ 32
+unfolding wordAt
+word-fits s i b = omega (arith, b i, b (i + 1), b (i + 2), b (i + 3))
+
+pub op-fits : (s : List ℕ) (i : ℕ) → ((j : ℕ) → getD s j 0 < 256) → opAt s i .count < 2 ^ 32
+unfolding opAt
+op-fits s i b = word-fits s i b
+
 -- ---- tests
 pub and-left : (a b : Bool) → (a && b) ≡ true → a ≡ true
 and-left true b e = refl
