@@ -148,8 +148,9 @@ pub fn broadcast(r: Replica, m: &[u8]) -> Stepped
         Check::No(why) => replica::stopped(r, why),
         Check::Pass => {
             let k = message::read_commit(m);
+            let after = confirmed_replica(r, k);
             Stepped {
-                replica: confirmed_replica(r, k),
+                replica: after,
                 outcome: Outcome::Success(Done::Confirmed {
                     seq: k.seq,
                     status: k.status,

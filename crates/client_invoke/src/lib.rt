@@ -78,8 +78,9 @@ pub fn invoke(r: Replica, kind: u8, cell: u8, amount: u8, out: &mut [u8]) -> Ste
     match invoke_check(r, kind, cell, amount, room) {
         Check::No(why) => replica::stopped(r, why),
         Check::Pass => {
+            let count = r.count + 1;
             let e = Operation {
-                count: r.count + 1,
+                count,
                 kind,
                 cell,
                 amount,
@@ -95,8 +96,9 @@ pub fn invoke(r: Replica, kind: u8, cell: u8, amount: u8, out: &mut [u8]) -> Ste
                     tag,
                 },
             );
+            let after = invoked_replica(r, e);
             Stepped {
-                replica: invoked_replica(r, e),
+                replica: after,
                 outcome: Outcome::Success(Done::Invoked(e.count)),
             }
         }

@@ -43,8 +43,8 @@ enum-told : tie.Need-enum-told
 enum-told c = search needs
 
 -- src/lib.rt:69:24
-add-t13 : tie.Need-add-t13
-add-t13 c = record { fits = omega (arith, yes (c .before) .below) }
+add-count : tie.Need-add-count
+add-count c = record { fits = omega (arith, yes (c .before) .below) }
 
 -- src/lib.rt:76:17
 invoke-tag-requires : tie.Need-invoke-tag-requires
@@ -89,7 +89,7 @@ invoke-spec =
     enum-known-why
     stopped-requires
     enum-told
-    add-t13
+    add-count
     invoke-tag-requires
     write-invoke-requires
     invoked-replica-requires
