@@ -132,8 +132,7 @@ fn items_check(r: Replica, m: &[u8], n: usize) -> Check
     let mut q = Check::Pass;
     let mut k = 0;
     while k < n {
-        let i = item_of(m, k);
-        q = item_also(q, r, k, i);
+        q = item_also(q, r, k, item_of(m, k));
         k += 1;
     }
     q

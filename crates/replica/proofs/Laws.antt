@@ -2,15 +2,16 @@
 use Prim.Native.Nat.{ℕ, zero, suc, _+_, _*_, _<_, _≤_}
 use mathlib.Core.Path.{_≡_, refl, sym, ap, _∙_}
 use mathlib.Core.List.{List, [], _∷_, _++_}
-use mathlib.Core.Bool.{Bool, true, false, cond, _&&_, _||_, true≢false}
+use mathlib.Core.Bool.{Bool, true, false, cond, _&&_, _||_, true≢false, and-false, or-true}
 use lib.Dec.{leb, eqb}
-use lib.ListN.{drop}
+use lib.ListN.{length, drop}
 use native.Mathlib.Omega.{arith}
-use borrow.Author.Tests.{leb-true, eqb-true, ne-eqb}
+use borrow.Author.Tests.{leb-true, eqb-true, ne-eqb, le-leb, lt-leb}
 use Rattle.slices.specs.Bytes.{all, isZero}
+pub use Rattle.slices.proofs.Laws.{and-yes}
 use Rattle.operation.specs.Operation.{opOk}
 use Rattle.replica.specs.Outcome.{refusalNo, haltNo, whyNo}
-use Rattle.replica.specs.Replica.{every, noCurrent, numbersOk, arraysOk, inRange, alsoNo, firstNo, refuse, halt, stop}
+use Rattle.replica.specs.Replica.{every, noCurrent, numbersOk, arraysOk, inRange, alsoNo, firstNo, After, refuse, haltedAt, halt, stop}
 use Rattle.replica.specs.declared.Replica.{Replica}
 use Rattle.replica.specs.declared.Refusal.{Refusal}
 use Rattle.replica.specs.declared.Refusal.the-variants as R
@@ -109,10 +110,6 @@ abbrev pub Each : List Bool → Type 0
 Each [] = Unit {0}
 Each (b ∷ bs) = (b ≡ true) × Each bs
 
-pub and-yes : (a b : Bool) → (a && b) ≡ true → (a ≡ true) × (b ≡ true)
-and-yes true b e = (refl, e)
-and-yes false b e = absurd (true≢false (sym e))
-
 pub every-yes : (a : Bool) (bs : List Bool) → every a bs ≡ true → (a ≡ true) × Each bs
 every-yes a [] e = (e, tt)
 every-yes a (b ∷ bs) e =
@@ -176,3 +173,89 @@ ranged r e =
       unused = a .1 .0;
       rest = a .1 .1 .0;
     }
+
+pub in-range : (r : Replica) → Ranged r → inRange r ≡ true
+unfolding inRange numbersOk arraysOk
+in-range r g =
+    rw (
+      le-leb _ _ (g .low),
+      le-leb _ _ (g .high),
+      le-leb _ _ (g .count),
+      le-leb _ _ (g .confirmed),
+      le-leb _ _ (g .held),
+      le-leb _ _ (g .last),
+      g .mark,
+      g .current,
+      g .statuses,
+      g .unused,
+      g .rest,
+    )
+
+-- how long the arrays are
+pub record Sized (r : Replica) : Type 0 where
+  pub keys : length (r .keys) ≡ 256
+  pub chain : length (r .chain) ≡ 1056
+  pub statuses : length (r .statuses) ≡ 32
+  pub cells : length (r .cells) ≡ 16
+
+-- check 8 and the lengths, which every call keeps
+pub record Sound (r : Replica) : Type 0 where
+  pub range : inRange r ≡ true
+  pub sized : Sized r
+
+-- ---- by the cases of a test
+pub cond-cases : {A : Type 0} (P : A → Type 0) (t : Bool) (a b : A) → (t ≡ true → P a) → (t ≡ false → P b) → P (cond t a b)
+cond-cases P true a b f g = f refl
+cond-cases P false a b f g = g refl
+
+-- a call goes where its number is 0, else stops
+pub call-cases : {A : Type 0} (P : A → Type 0) (n : ℕ) (a b : A) → (n ≡ 0 → P a) → P b → P (cond (eqb n 0) a b)
+call-cases P n a b f g = cond-cases P (eqb n 0) a b (λ e. f (eqb-true n 0 e)) (λ e. g)
+
+-- ---- a stop
+module _ (r : Replica) (n : ℕ) where
+  -- a halt's number halts, another is a refusal
+  pub stop-halts : 20 ≤ n → n ≤ 25 → stop r n ≡ halt r n
+  stop-halts h k = rw (le-leb _ _ h, le-leb _ _ k)
+
+  pub stop-low : n < 20 → stop r n ≡ refuse r n
+  stop-low h = rw (lt-leb _ _ h)
+
+  pub stop-high : 25 < n → stop r n ≡ refuse r n
+  stop-high h = rw (lt-leb _ _ h, and-false (leb 20 n))
+
+  -- nothing changes but the halt mark, which a halt makes the number
+  pub stop-cases : (P : Replica → Type 0) → P r → (20 ≤ n → n ≤ 25 → P (haltedAt r n)) → P (stop r n .replica)
+  stop-cases P a b =
+      cond-cases (λ (x : After). P (x .replica)) (leb 20 n && leb n 25) (halt r n) (refuse r n)
+      (λ e. let h = and-yes (leb 20 n) (leb n 25) e in b (leb-true _ _ (h .0)) (leb-true _ _ (h .1)))
+      (λ e. a)
+
+  pub stop-rest : stop r n .replica ≡ haltedAt r (stop r n .replica .halt)
+  stop-rest = stop-cases (λ (s : Replica). s ≡ haltedAt r (s .halt)) refl (λ h k. refl)
+
+  pub stop-in-range : inRange r ≡ true → inRange (stop r n .replica) ≡ true
+  stop-in-range e =
+      let g = ranged r e in
+      stop-cases (λ (s : Replica). inRange s ≡ true) e
+      (λ h k.
+      in-range (haltedAt r n) (record {
+        low = g .low;
+        high = g .high;
+        count = g .count;
+        confirmed = g .confirmed;
+        held = g .held;
+        last = g .last;
+        mark = rw (le-leb 20 n h, le-leb n 25 k) (or-true (eqb n 0));
+        current = g .current;
+        statuses = g .statuses;
+        unused = g .unused;
+        rest = g .rest;
+      }))
+
+  pub stop-sized : Sized r → Sized (stop r n .replica)
+  stop-sized s =
+      stop-cases Sized s (λ h k. record { keys = s .keys; chain = s .chain; statuses = s .statuses; cells = s .cells })
+
+  pub stop-sound : Sound r → Sound (stop r n .replica)
+  stop-sound s = record { range = stop-in-range (s .range); sized = stop-sized (s .sized) }
