@@ -34,14 +34,13 @@ fn merged(from: Marks, into: Marks, lo: usize, hi: usize, to: usize) -> Marks
 fn any_marked(s: Marks) -> bool
     ensures { λ r. ⌜ (r ≡ true) ↔ ((v : ℕ) × Has s v) ⌝ }
 {
+    let mut found = false;
     let mut v: usize = 0;
     while v < 256 {
-        if s.at[v] {
-            return true;
-        }
+        found = found | s.at[v];
         v += 1;
     }
-    false
+    found
 }
 
 // The marks of `into`, and those that the operation makes of `from`.
