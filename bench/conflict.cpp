@@ -1,4 +1,4 @@
-// Times the proved conflict test (librattle: target/staticlib/libbench_conflict.a) against plain C++ implementations,
+// Times the proved conflict test (target/staticlib/libbench_conflict.a) against plain C++ implementations,
 // in one run. bench/README-conflict.md says how.
 #include <algorithm>
 #include <bitset>

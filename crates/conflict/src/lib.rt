@@ -10,8 +10,8 @@ ghost use Rattle.conflict.specs.Reach.{Has, Shifted, Moved, marksAt, Fir
 use operation::Operation;
 
 // "One cell's values reached so far are 256 yes-or-no marks."
-pub struct Marks {
-    pub at: [bool; 256],
+struct Marks {
+    at: [bool; 256],
 }
 
 // The marks of `into`, and those of `from` from `lo` up to `hi`, moved to start at `to`.
