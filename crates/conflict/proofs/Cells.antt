@@ -13,7 +13,8 @@ use lib.Dec.{eqb}
 use borrow.Author.Tests.{eq-eqb, ne-eqb}
 use Rattle.operation.specs.declared.Operation.{Operation}
 use Rattle.operation.specs.Operation.{Response, value, response, after, responseOn}
-use Rattle.operation.proofs.Laws.{noOp, take-more, after-length}
+use Rattle.operation.specs.Operation.{noOp}
+use Rattle.operation.proofs.Laws.{take-more, after-length}
 use Rattle.conflict.specs.Conflict.{Turn, own, other, responses, Interleaving, done, leave, theirs, ours, Conflict}
 use Rattle.conflict.specs.Reach.{Differs, here, step, skip, runs, onCell}
 use Rattle.conflict.proofs.Meaning.{alone}

@@ -12,7 +12,7 @@ use lib.ListN.{length, getD, set, take, drop, drop-of-length-le}
 use lib.Seq.{getD-set-same, getD-set-other, drop-cons, length-take-le, getD-take}
 use Rattle.operation.specs.declared.Operation.{Operation}
 use Rattle.operation.specs.Operation.{Response, value, response}
-use Rattle.operation.proofs.Laws.{noOp}
+use Rattle.operation.specs.Operation.{noOp}
 use Rattle.conflict.specs.declared.Marks.{Marks}
 use Rattle.conflict.specs.Reach.{Has, Moved, marksAt, FirstMarks, Differs, here, step, skip, runs}
 use Rattle.conflict.proofs.Marked.{below}

@@ -6,11 +6,7 @@ use native.Mathlib.Numerals.{add-one}
 use lib.ListN.{length, getD, take, set, length-set}
 use lib.Seq.{take-suc}
 use Rattle.operation.specs.declared.Operation.{Operation}
-use Rattle.operation.specs.Operation.{after, value, runAll}
-
--- no operation
-abbrev pub noOp : Operation
-noOp = record { count = 0; kind = 0; cell = 0; amount = 0; last = 0 }
+use Rattle.operation.specs.Operation.{noOp, after, value, runAll}
 
 -- one operation more at the end
 pub run-more : (es : List Operation) (e : Operation) (s : List ℕ) → runAll (es ++ (e ∷ [])) s ≡ after e (runAll es s)

@@ -1,5 +1,5 @@
 use lib.ListN.{getD}
-use Rattle.operation.proofs.Laws.{noOp}
+use Rattle.operation.specs.Operation.{noOp}
 use Prim.Native.Nat.{ℕ, _<_, _≤_, _-_, _+_}
 use mathlib.Core.Path.{_≡_, refl, sym, ap, _∙_}
 use native.Mathlib.Omega.{arith}

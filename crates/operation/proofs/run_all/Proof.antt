@@ -1,10 +1,10 @@
 use borrow.Author.Needs.{needs}
-use Rattle.operation.specs.Operation.{allowed, opOk, opBytes, opAt, value, response, after, responseOn, effect, runAll, sameOp}
+use Rattle.operation.specs.Operation.{noOp, allowed, opOk, opBytes, opAt, value, response, after, responseOn, effect, runAll, sameOp}
 use mathlib.Core.Path.{_≡_, refl, sym, ap, _∙_}
 use Prim.Native.Nat.{ℕ, _+_, _-_, _<_, _≤_}
 use lib.ListN.{length, take, getD}
 use native.Mathlib.Omega.{arith}
-use Rattle.operation.proofs.Laws.{noOp, run-more, take-more}
+use Rattle.operation.proofs.Laws.{run-more, take-more}
 use Rattle.operation.proofs.run_all.Statement.{statement}
 use Rattle.operation.proofs.run_all.Tie as tie
 use Rattle.operation.proofs.run_all.Reads as reads
