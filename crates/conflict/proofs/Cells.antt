@@ -3,7 +3,7 @@ use Prim.Native.Nat.{ℕ, suc, _+_, _<_, _≤_}
 use mathlib.Core.Path.{_≡_, refl, sym, ap, ap₂, _∙_, subst, subst₂}
 use mathlib.Core.Bool.{Bool, true, false, cond}
 use mathlib.Core.List.{List, [], _∷_, _++_, map, append-nil}
-use mathlib.Core.Logic.{_⊎_, inl, inr}
+use mathlib.Core.Logic.{_↔_, _⊎_, inl, inr}
 use native.Mathlib.Decide.{ℕ-discrete, decLt}
 use native.Mathlib.Omega.{arith}
 use native.Mathlib.Numerals.{add-one}
@@ -230,3 +230,7 @@ untouched-other v os ws h d = no-other value response (rw (empty os h) at d) ref
 pub clamped : (l : List Operation) (n r : ℕ) → length l ≡ 32 → (r ≡ n) ⊎ ((r ≡ 32) × (32 ≤ n)) → take r l ≡ take n l
 clamped l n r h (inl p) = ap (λ i. take i l) p
 clamped l n r h (inr (p, q)) = take-all r l (omega arith) ∙ sym (take-all n l (omega arith))
+
+-- The same lists under other names.
+pub renamed : {r : Bool} {v : ℕ} {p q os ws : List Operation} → p ≡ os → q ≡ ws → (r ≡ true) ↔ Differs value response v v p q → (r ≡ true) ↔ Differs value response v v os ws
+renamed a b h = rw (a, b) at h

@@ -10,8 +10,8 @@ ghost use Rattle.conflict.specs.Reach.{Has, Shifted, Moved, marksAt, Fir
 use operation::Operation;
 
 // "One cell's values reached so far are 256 yes-or-no marks."
-pub struct Marks {
-    pub at: [bool; 256],
+struct Marks {
+    at: [bool; 256],
 }
 
 // The marks of `into`, and those of `from` from `lo` up to `hi`, moved to start at `to`.
@@ -34,14 +34,13 @@ fn merged(from: Marks, into: Marks, lo: usize, hi: usize, to: usize) -> Marks
 fn any_marked(s: Marks) -> bool
     ensures { λ r. ⌜ (r ≡ true) ↔ ((v : ℕ) × Has s v) ⌝ }
 {
+    let mut found = false;
     let mut v: usize = 0;
     while v < 256 {
-        if s.at[v] {
-            return true;
-        }
+        found = found | s.at[v];
         v += 1;
     }
-    false
+    found
 }
 
 // The marks of `into`, and those that the operation makes of `from`.

@@ -1,0 +1,211 @@
+// Times the proved conflict test (target/staticlib/libbench_conflict.a) against plain C++ implementations,
+// in one run. bench/README-conflict.md says how.
+#include <algorithm>
+#include <bitset>
+#include <chrono>
+#include <cstdint>
+#include <cstdio>
+#include <cstring>
+#include <random>
+#include <vector>
+
+extern "C" bool rattle_conflict(const uint8_t *cells, const uint8_t *others, size_t n, const uint8_t *own, size_t m);
+
+using Set = std::bitset<256>;
+
+struct Op {
+    int kind, cell, amount;
+};
+
+static int value(Op e, int v) {
+    switch (e.kind) {
+    case 1: return v + e.amount <= 255 ? v + e.amount : v;
+    case 2: return e.amount <= v ? v - e.amount : v;
+    case 4: return e.amount;
+    default: return v;
+    }
+}
+
+static int response(Op e, int v) {
+    switch (e.kind) {
+    case 1: return v + e.amount <= 255;
+    case 2: return e.amount <= v;
+    case 3: return v;
+    default: return 1;
+    }
+}
+
+// The straightforward one: the same search, value by value, its marks in bitsets.
+static bool plain(int start, const std::vector<Op> &others, const std::vector<Op> &own) {
+    std::vector<Set> reach(own.size() + 1);
+    reach[0].set(start);
+    for (size_t i = 0;; ++i) {
+        int u = start;
+        for (size_t j = 0; j < own.size(); ++j) {
+            int expected = response(own[j], u);
+            for (int v = 0; v < 256; ++v)
+                if (reach[j][v]) {
+                    if (response(own[j], v) != expected) return true;
+                    reach[j + 1].set(value(own[j], v));
+                }
+            u = value(own[j], u);
+        }
+        if (i == others.size()) return false;
+        for (Set &s : reach) {
+            Set t = s;
+            for (int v = 0; v < 256; ++v)
+                if (s[v]) t.set(value(others[i], v));
+            s = t;
+        }
+    }
+}
+
+// For comparison: whole sets moved at once by shifts, no loop over values.
+static Set low[257];
+
+static Set moved(const Set &s, Op e) {
+    switch (e.kind) {
+    case 1: return ((s & low[256 - e.amount]) << e.amount) | (s & ~low[256 - e.amount]);
+    case 2: return ((s & ~low[e.amount]) >> e.amount) | (s & low[e.amount]);
+    case 4: return s.any() ? Set().set(e.amount) : Set();
+    default: return s;
+    }
+}
+
+static bool differs(const Set &s, Op e, int u) {
+    switch (e.kind) {
+    case 1: return (u + e.amount <= 255 ? s & ~low[256 - e.amount] : s & low[256 - e.amount]).any();
+    case 2: return (e.amount <= u ? s & low[e.amount] : s & ~low[e.amount]).any();
+    case 3: return Set(s).reset(u).any();
+    default: return false;
+    }
+}
+
+static bool shifts(int start, const std::vector<Op> &others, const std::vector<Op> &own) {
+    std::vector<Set> reach(own.size() + 1);
+    reach[0].set(start);
+    for (size_t i = 0;; ++i) {
+        int u = start;
+        for (size_t j = 0; j < own.size(); ++j) {
+            if (differs(reach[j], own[j], u)) return true;
+            reach[j + 1] |= moved(reach[j], own[j]);
+            u = value(own[j], u);
+        }
+        if (i == others.size()) return false;
+        for (Set &s : reach) s |= moved(s, others[i]);
+    }
+}
+
+struct Case {
+    const char *name;
+    uint8_t cells[16];
+    uint8_t others[256];
+    size_t n;
+    uint8_t own[256];
+    size_t m;
+};
+
+template <class F> static bool whole(F test, const Case &c) {
+    std::vector<Op> os[16], ws[16];
+    for (size_t i = 0; i < c.n; ++i) {
+        const uint8_t *p = c.others + 8 * i;
+        if (p[5] < 16) os[p[5]].push_back({p[4], p[5], p[6]});
+    }
+    for (size_t i = 0; i < c.m; ++i) {
+        const uint8_t *p = c.own + 8 * i;
+        if (p[5] < 16) ws[p[5]].push_back({p[4], p[5], p[6]});
+    }
+    for (int k = 0; k < 16; ++k)
+        if (!os[k].empty() && !ws[k].empty() && test(c.cells[k], os[k], ws[k])) return true;
+    return false;
+}
+
+static bool proved(const Case &c) { return rattle_conflict(c.cells, c.others, c.n, c.own, c.m); }
+
+static void put(uint8_t *ops, size_t i, int kind, int cell, int amount) {
+    uint8_t p[8] = {0, 0, 0, 1, (uint8_t)kind, (uint8_t)cell, (uint8_t)amount, 0};
+    memcpy(ops + 8 * i, p, 8);
+}
+
+template <class O, class W> static Case make(const char *name, int start, size_t n, O others, size_t m, W own) {
+    Case c;
+    memset(&c, 0, sizeof c);
+    c.name = name;
+    memset(c.cells, start, 16);
+    c.n = n;
+    c.m = m;
+    for (size_t i = 0; i < n; ++i) others(c.others, i);
+    for (size_t i = 0; i < m; ++i) own(c.own, i);
+    return c;
+}
+
+// Microseconds a call, once: 40 calls in a row.
+template <class F> static double once(F f) {
+    auto t = std::chrono::steady_clock::now();
+    for (int i = 0; i < 40; ++i) {
+        volatile bool r = f();
+        (void)r;
+    }
+    return std::chrono::duration<double, std::micro>(std::chrono::steady_clock::now() - t).count() / 40;
+}
+
+int main() {
+    for (int i = 0; i <= 256; ++i)
+        for (int v = 0; v < i; ++v) low[i].set(v);
+
+    // First, the three agree on random cases.
+    std::mt19937 random(1);
+    int yes = 0;
+    for (int r = 0; r < 20000; ++r) {
+        int cells = 1 + random() % 3, wide = random() % 2 ? 256 : 8;
+        auto op = [&](uint8_t *ops, size_t i) {
+            int kind = 1 + random() % 4;
+            put(ops, i, kind, random() % cells, kind == 3 ? 0 : random() % wide);
+        };
+        size_t n = random() % 6, m = random() % 6;
+        Case c = make("", random() % wide, n, op, m, op);
+        bool a = proved(c);
+        yes += a;
+        if (a != whole(plain, c) || a != whole(shifts, c)) {
+            printf("differ at random case %d\n", r);
+            return 1;
+        }
+    }
+    printf("20000 random cases agree, %d of them conflicts\n\n", yes);
+
+    // Powers of two, each twice over: every value is reached from 0.
+    auto powers = [](uint8_t *ops, size_t i) { put(ops, i, 1, 0, 1 << (i % 8)); };
+    std::vector<Case> cases = {
+        make("16 others, 16 own add 0", 0, 16, powers, 16, [](uint8_t *o, size_t i) { put(o, i, 1, 0, 0); }),
+        make("16 others, 16 own take 0", 0, 16, powers, 16, [](uint8_t *o, size_t i) { put(o, i, 2, 0, 0); }),
+        make("16 others, 16 own sets", 0, 16, powers, 16, [](uint8_t *o, size_t i) { put(o, i, 4, 0, 37 * i % 256); }),
+        make("31 others, 1 own", 0, 31, powers, 1, [](uint8_t *o, size_t i) { put(o, i, 2, 0, 0); }),
+        make("1 other, 31 own", 0, 1, powers, 31, [](uint8_t *o, size_t i) { put(o, i, 2, 0, 0); }),
+        make("16 and 16 over 16 cells", 0, 16, [](uint8_t *o, size_t i) { put(o, i, 1, i, 1); }, 16,
+             [](uint8_t *o, size_t i) { put(o, i, 1, i, 1); }),
+        make("16 and 16, no cell shared", 0, 16, [](uint8_t *o, size_t i) { put(o, i, 1, i % 8, 1); }, 16,
+             [](uint8_t *o, size_t i) { put(o, i, 1, 8 + i % 8, 1); }),
+        make("16 others, 16 own reads: yes", 0, 16, powers, 16, [](uint8_t *o, size_t i) { put(o, i, 3, 0, 0); }),
+        make("32 others, 32 own take 0 *", 0, 32, powers, 32, [](uint8_t *o, size_t i) { put(o, i, 2, 0, 0); }),
+    };
+    printf("%-30s %10s %10s %7s %10s\n", "microseconds a call", "proved", "C++", "ratio", "C++ shifts");
+    double worst = 0, ratio = 0;
+    for (const Case &c : cases) {
+        if (proved(c) != whole(plain, c) || proved(c) != whole(shifts, c)) {
+            printf("differ at %s\n", c.name);
+            return 1;
+        }
+        // Taken in turn, so that a busy moment of the machine falls on all three; the least of each counts.
+        double a = 1e9, b = 1e9, d = 1e9;
+        for (int r = 0; r < 60; ++r) {
+            a = std::min(a, once([&] { return proved(c); }));
+            b = std::min(b, once([&] { return whole(plain, c); }));
+            d = std::min(d, once([&] { return whole(shifts, c); }));
+        }
+        printf("%-30s %10.2f %10.2f %7.2f %10.2f\n", c.name, a, b, a / b, d);
+        ratio = std::max(ratio, a / b);
+        if (c.n + c.m <= 32) worst = std::max(worst, a);
+    }
+    printf("\nworst with at most 32 operations in all: %.2f us (bar 200)\nlargest ratio to the C++ search: %.2f (bar 2)\n", worst, ratio);
+    return worst < 200 && ratio <= 2 ? 0 : 1;
+}
