@@ -10,7 +10,7 @@ of ten bytes and then a body:
     4     I: cell
     5     I: amount
     6, 7  I and R: out bytes lent, at most 128; P: index in the field
-    8, 9  length of the body, at most 2,048
+    8, 9  length of the body, at most 4,096
     body  N: the line to print; O: keys; R: message; P: value, in four bytes
 
 A note is printed as it is. Any other record gives one line: the outcome's word and numbers (for a poke, the

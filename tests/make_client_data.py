@@ -23,7 +23,7 @@ class Script:
         return book_of(self.slots[slot])
 
     def record(self, command, slot, to, a=0, b=0, c=0, room=0, body=b""):
-        assert len(body) <= 2048
+        assert len(body) <= 4096
         head = command.encode() + bytes([slot, to, a, b, c]) + room.to_bytes(2, "big") + len(body).to_bytes(2, "big")
         self.records.append(head + body)
 
