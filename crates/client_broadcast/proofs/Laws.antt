@@ -1,0 +1,109 @@
+-- Laws of taking a broadcast: the stages of its checks, what a success implies, and what each case comes to. Assumes nothing.
+use Prim.Native.Nat.{ℕ, _+_, _<_, _≤_}
+use mathlib.Core.Path.{_≡_, refl, sym, ap, _∙_}
+use mathlib.Core.List.{List, [], _∷_, _++_}
+use mathlib.Core.Bool.{Bool, true, false}
+use lib.Dec.{leb, eqb}
+use lib.ListN.{length}
+use native.Mathlib.Omega.{arith}
+use borrow.Author.Tests.{leb-true, eqb-true}
+use Rattle.slices.specs.Bytes.{same}
+use Rattle.operation.specs.Operation.{opOk}
+use Rattle.message.specs.declared.Commit.{Commit}
+use Rattle.message.specs.Message.{isBroadcast, commitOf}
+use Rattle.message.proofs.Laws.{broadcast-length}
+use Rattle.verify.specs.Verify.{commitTagOk}
+use Rattle.replica.specs.declared.Replica.{Replica}
+use Rattle.replica.specs.declared.Why.{Why}
+use Rattle.replica.specs.Outcome.{whyNo, confirmed}
+use Rattle.replica.specs.Replica.{After, stop, inRange, every, firstNo}
+use Rattle.replica.proofs.Laws.{why-not-0, first-stays, all-yes, every-yes, and-yes}
+use Rattle.client_broadcast.specs.Broadcast.{commitOk, seqOk, digestOk, formChecks, contentChecks, proofChecks, broadcastNo, confirmedReplica, broadcastStep}
+
+-- ---- the stages of the checks
+module _ (r : Replica) (m : List ℕ) where
+  abbrev k : Commit
+  k = commitOf m
+
+  abbrev rest : List (Bool × ℕ)
+  rest = contentChecks r k ++ proofChecks r k
+
+  pub form-stops : (w : Why) → whyNo w ≡ firstNo 0 (formChecks r m) → whyNo w ≡ broadcastNo r m
+  unfolding broadcastNo
+  form-stops w e = sym (ap (λ (n : ℕ). firstNo n rest) (sym e) ∙ first-stays (whyNo w) rest (why-not-0 w))
+
+  pub content-stops : (w : Why) → 0 ≡ firstNo 0 (formChecks r m) → whyNo w ≡ firstNo 0 (contentChecks r k) → whyNo w ≡ broadcastNo r m
+  unfolding broadcastNo
+  content-stops w e f =
+      sym
+      (ap (λ (n : ℕ). firstNo n rest) (sym e)
+      ∙ ap (λ (n : ℕ). firstNo n (proofChecks r k)) (sym f)
+      ∙ first-stays (whyNo w) (proofChecks r k) (why-not-0 w))
+
+  pub proof-decides : (n : ℕ) → 0 ≡ firstNo 0 (formChecks r m) → 0 ≡ firstNo 0 (contentChecks r k) → n ≡ firstNo 0 (proofChecks r k) → n ≡ broadcastNo r m
+  unfolding broadcastNo
+  proof-decides n e f g = g ∙ ap (λ (x : ℕ). firstNo x (proofChecks r k)) f ∙ ap (λ (x : ℕ). firstNo x rest) e
+
+  pub form-long : 0 ≡ firstNo 0 (formChecks r m) → length m ≡ 80
+  form-long e = broadcast-length m (all-yes 0 (formChecks r m) (refl, (refl, (refl, tt))) (sym e) .1 .1 .1 .0)
+
+-- what an allowed commit has
+pub record Allowed (k : Commit) : Type 0 where
+  pub op : opOk (k .op) ≡ true
+  pub low : 1 ≤ k .author
+  pub high : k .author ≤ 8
+  pub status : k .status ≤ 1
+
+pub commit-allowed : (k : Commit) → commitOk k ≡ true → Allowed k
+unfolding commitOk
+commit-allowed k e =
+    let z = every-yes true (opOk (k .op) ∷ leb 1 (k .author) ∷ leb (k .author) 8 ∷ leb (k .status) 1 ∷ []) e .1 in
+    record { op = z .0; low = leb-true _ _ (z .1 .0); high = leb-true _ _ (z .1 .1 .0); status = leb-true _ _ (z .1 .1 .1 .0) }
+
+pub content-author : (r : Replica) (k : Commit) → 0 ≡ firstNo 0 (contentChecks r k) → (1 ≤ k .author) × (k .author ≤ 8)
+content-author r k e =
+    let a = commit-allowed k (all-yes 0 (contentChecks r k) (refl, (refl, tt)) (sym e) .1 .0) in
+    (a .low, a .high)
+
+-- what a successful broadcast implies
+pub record Confirmed (r : Replica) (m : List ℕ) : Type 0 where
+  pub range : inRange r ≡ true
+  pub clear : r .halt ≡ 0
+  pub form : isBroadcast m ≡ true
+  pub long : length m ≡ 80
+  pub fine : Allowed (commitOf m)
+  pub next : commitOf m .seq ≡ r .confirmed + 1
+  pub below : r .confirmed < 1000000
+  pub tag : commitTagOk (r .keys) (commitOf m) ≡ true
+  pub digest : digestOk r (commitOf m) ≡ true
+
+pub broadcast-yes : (r : Replica) (m : List ℕ) → broadcastNo r m ≡ 0 → Confirmed r m
+unfolding broadcastNo
+broadcast-yes r m e =
+    let k = commitOf m in
+    let y = all-yes 0 (formChecks r m ++ (contentChecks r k ++ proofChecks r k)) (refl, (refl, (refl, (refl, (refl, (refl, (refl, tt))))))) e .1 in
+    let p = and-yes (eqb (k .seq) (r .confirmed + 1)) (leb (k .seq) 1000000) (y .1 .1 .1 .1 .0) in
+    let n : k .seq ≡ r .confirmed + 1 = eqb-true _ _ (p .0) in
+    let o : k .seq ≤ 1000000 = leb-true _ _ (p .1) in
+    record {
+      range = y .0;
+      clear = eqb-true _ _ (y .1 .0);
+      form = y .1 .1 .0;
+      long = broadcast-length m (y .1 .1 .0);
+      fine = commit-allowed k (y .1 .1 .1 .0);
+      next = n;
+      below = omega (arith, n, o);
+      tag = y .1 .1 .1 .1 .1 .0;
+      digest = y .1 .1 .1 .1 .1 .1 .0;
+    }
+
+-- ---- the two cases of a broadcast
+module _ (r : Replica) (m : List ℕ) where
+  pub broadcast-stops : (w : Why) → whyNo w ≡ broadcastNo r m → stop r (whyNo w) ≡ broadcastStep r m
+  unfolding broadcastStep
+  broadcast-stops w e = rw (← e, why-not-0 w)
+
+  pub broadcast-goes : broadcastNo r m ≡ 0
+      → record { replica = confirmedReplica r (commitOf m); says = confirmed (commitOf m .seq) (commitOf m .status) } ≡ broadcastStep r m
+  unfolding broadcastStep
+  broadcast-goes e = rw e

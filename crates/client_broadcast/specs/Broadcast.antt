@@ -1,0 +1,68 @@
+-- Taking a broadcast. Document 01, "What a van does" (`BR`) and "The questions, in order".
+use Prim.Native.Nat.{ℕ, _+_, _-_}
+use mathlib.Core.List.{List, [], _∷_, _++_}
+use mathlib.Core.Bool.{Bool, true, cond, _&&_}
+use lib.ListN.{drop, replicate}
+use lib.Dec.{leb, eqb}
+use Rattle.slices.specs.Bytes.{same}
+use Rattle.operation.specs.Operation.{opOk, effect}
+use Rattle.message.specs.declared.Commit.{Commit}
+use Rattle.message.specs.Message.{isBroadcast, commitOf}
+use Rattle.verify.specs.Verify.{commitTagOk, valueAt, linkValue}
+use Rattle.replica.specs.declared.Replica.{Replica}
+use Rattle.replica.specs.Outcome.{Told, confirmed}
+use Rattle.replica.specs.Replica.{After, inRange, every, firstNo, stop}
+
+-- 21: "entry, author, status allowed?"
+unfoldable pub commitOk : Commit → Bool
+commitOk k = every true (opOk (k .op) ∷ leb 1 (k .author) ∷ leb (k .author) 8 ∷ leb (k .status) 1 ∷ [])
+
+-- 25: "Place c + 1 and at most 1,000,000?"
+abbrev pub seqOk : Replica → Commit → Bool
+seqOk r k = eqb (k .seq) (r .confirmed + 1) && leb (k .seq) 1000000
+
+-- "The chain value there is the held one, else it is worked out from that at c."
+unfoldable pub nextValue : Replica → Commit → List ℕ
+nextValue r k =
+    cond (eqb (r .held) 0)
+    (linkValue (valueAt 0 (r .chain)) (k .op) (k .seq) (k .author))
+    (valueAt 1 (r .chain))
+
+-- 23: "Digest the chain value?"
+unfoldable pub digestOk : Replica → Commit → Bool
+digestOk r k = same (k .digest) (nextValue r k)
+
+-- the checks in their order: 8, 3, 20; 21, 25; 22, 23
+abbrev pub formChecks : Replica → List ℕ → List (Bool × ℕ)
+formChecks r m = (inRange r, 8) ∷ (eqb (r .halt) 0, 3) ∷ (isBroadcast m, 20) ∷ []
+
+abbrev pub contentChecks : Replica → Commit → List (Bool × ℕ)
+contentChecks r k = (commitOk k, 21) ∷ (seqOk r k, 25) ∷ []
+
+abbrev pub proofChecks : Replica → Commit → List (Bool × ℕ)
+proofChecks r k = (commitTagOk (r .keys) k, 22) ∷ (digestOk r k, 23) ∷ []
+
+unfoldable pub broadcastNo : Replica → List ℕ → ℕ
+broadcastNo r m = firstNo 0 (formChecks r m ++ (contentChecks r (commitOf m) ++ proofChecks r (commitOf m)))
+
+-- "`BR` confirms place c + 1 …. With status done the entry is run on the cells. c goes up by one."
+unfoldable pub confirmedReplica : Replica → Commit → Replica
+confirmedReplica r k =
+    record {
+      number = r .number;
+      keys = r .keys;
+      count = r .count;
+      current = r .current;
+      confirmed = r .confirmed + 1;
+      held = r .held - 1;
+      chain = nextValue r k ++ drop 64 (r .chain) ++ replicate 32 0;
+      statuses = drop 1 (r .statuses) ++ (0 ∷ []);
+      cells = effect (eqb (k .status) 1) (k .op) (r .cells);
+      halt = r .halt;
+    }
+
+unfoldable pub broadcastStep : Replica → List ℕ → After
+broadcastStep r m =
+    cond (eqb (broadcastNo r m) 0)
+    (record { replica = confirmedReplica r (commitOf m); says = confirmed (commitOf m .seq) (commitOf m .status) })
+    (stop r (broadcastNo r m))

@@ -1,0 +1,160 @@
+// Taking a broadcast. Definitions: specs/Broadcast.antt.
+ghost use mathlib.Core.Path.{_≡_};
+ghost use Prim.Native.Nat.{_+_, _-_, _<_, _≤_};
+ghost use mathlib.Core.List.{_∷_, [], _++_};
+ghost use lib.ListN.{length, drop, replicate};
+ghost use Rattle.message.specs.Message.{commitOf};
+ghost use Rattle.replica.specs.Outcome.{checkNo};
+ghost use Rattle.replica.specs.Replica.{afterOf, firstNo};
+ghost use Rattle.client_broadcast.specs.Broadcast.{commitOk, seqOk, nextValue, formChecks, contentChecks, proofChecks, broadcastNo, confirmedReplica, broadcastStep};
+use message::Commit;
+use replica::Check;
+use replica::Done;
+use replica::Halt;
+use replica::Outcome;
+use replica::Refusal;
+use replica::Replica;
+use replica::Stepped;
+use replica::Why;
+
+fn commit_ok(k: Commit) -> bool
+    ensures { λ r. ⌜ r ≡ commitOk k ⌝ }
+{
+    let e = k.op;
+    operation::op_ok(e) & (1 <= k.author) & (k.author <= 8) & (k.status <= 1)
+}
+
+fn seq_ok(r: Replica, k: Commit) -> bool
+    ensures { λ q. ⌜ q ≡ seqOk r k ⌝ }
+{
+    (k.seq as u64 == r.confirmed as u64 + 1) & (k.seq <= 1000000)
+}
+
+// The chain value at the next sequence number.
+fn next_value(r: Replica, k: Commit) -> [u8; 32]
+    ensures { λ q. ⌜ q ≡ nextValue r k ⌝ }
+{
+    let chain = r.chain;
+    let e = k.op;
+    if r.held == 0 {
+        let v = verify::value_at(chain, 0);
+        verify::link_value(v, e, k.seq, k.author)
+    } else {
+        verify::value_at(chain, 1)
+    }
+}
+
+// The first checks, which need no byte of a message of another length.
+fn form_check(r: Replica, m: &[u8]) -> Check
+    ensures { λ q. ⌜ checkNo q ≡ firstNo 0 (formChecks r (now (m .entry))) ⌝ }
+{
+    let q = replica::also(
+        Check::Pass,
+        replica::in_range(r),
+        Why::Refuse(Refusal::Range),
+    );
+    let q = replica::also(q, r.halt == 0, Why::Refuse(Refusal::HaltMark));
+    replica::also(q, message::is_broadcast(m), Why::Halt(Halt::Form))
+}
+
+fn content_check(r: Replica, k: Commit) -> Check
+    ensures { λ q. ⌜ checkNo q ≡ firstNo 0 (contentChecks r k) ⌝ }
+{
+    let q = replica::also(Check::Pass, commit_ok(k), Why::Halt(Halt::Content));
+    replica::also(q, seq_ok(r, k), Why::Halt(Halt::Seq))
+}
+
+// Tag and digest, once the content is allowed.
+fn proof_check(r: Replica, k: Commit) -> Check
+    requires { ⌜ (1 ≤ k .author) × (k .author ≤ 8) ⌝ }
+    ensures { λ q. ⌜ checkNo q ≡ firstNo 0 (proofChecks r k) ⌝ }
+{
+    let keys = r.keys;
+    let digest = k.digest;
+    let next = next_value(r, k);
+    let q = replica::also(
+        Check::Pass,
+        verify::commit_tag_ok(keys, k),
+        Why::Halt(Halt::Tag),
+    );
+    replica::also(q, slices::equal(&digest, &next), Why::Halt(Halt::Chain))
+}
+
+// All the checks of a broadcast, in their order.
+fn broadcast_check(r: Replica, m: &[u8]) -> Check
+    ensures { λ q. ⌜ checkNo q ≡ broadcastNo r (now (m .entry)) ⌝ }
+{
+    match form_check(r, m) {
+        Check::No(why) => Check::No(why),
+        Check::Pass => {
+            let k = message::read_commit(m);
+            match content_check(r, k) {
+                Check::No(why) => Check::No(why),
+                Check::Pass => proof_check(r, k),
+            }
+        }
+    }
+}
+
+// The chain with its first value gone and the next one in its place.
+fn chain_shift(chain: [u8; 1056], next: [u8; 32]) -> [u8; 1056]
+    ensures { λ r. ⌜ r ≡ next ++ drop 64 chain ++ replicate 32 0 ⌝ }
+{
+    let mut t = [0u8; 1056];
+    slices::copy_to(&mut t, 0, &next);
+    slices::copy_to(&mut t, 32, &chain[64..1056]);
+    t
+}
+
+fn status_shift(s: [u8; 32]) -> [u8; 32]
+    ensures { λ r. ⌜ r ≡ drop 1 s ++ (0 ∷ []) ⌝ }
+{
+    let mut t = [0u8; 32];
+    slices::copy_to(&mut t, 0, &s[1..32]);
+    t
+}
+
+fn less_one(n: u32) -> u32
+    ensures { λ r. ⌜ r ≡ n - 1 ⌝ }
+{
+    if n == 0 { 0 } else { n - 1 }
+}
+
+fn confirmed_replica(r: Replica, k: Commit) -> Replica
+    requires { ⌜ r .confirmed < 1000000 ⌝ }
+    ensures { λ q. ⌜ q ≡ confirmedReplica r k ⌝ }
+{
+    let e = k.op;
+    let old_chain = r.chain;
+    let old_statuses = r.statuses;
+    let old_cells = r.cells;
+    let chain = chain_shift(old_chain, next_value(r, k));
+    let statuses = status_shift(old_statuses);
+    let cells = operation::effect_on(k.status == 1, e, old_cells);
+    let mut n = r;
+    n.confirmed = r.confirmed + 1;
+    n.held = less_one(r.held);
+    n.chain = chain;
+    n.statuses = statuses;
+    n.cells = cells;
+    n
+}
+
+// Takes a broadcast (document 01: `BR`).
+pub fn broadcast(r: Replica, m: &[u8]) -> Stepped
+    ensures { λ q. ⌜ afterOf q ≡ broadcastStep r (now (m .entry)) ⌝ }
+{
+    match broadcast_check(r, m) {
+        Check::No(why) => replica::stopped(r, why),
+        Check::Pass => {
+            let k = message::read_commit(m);
+            Stepped {
+                replica: confirmed_replica(r, k),
+                outcome: Outcome::Success(Done::Confirmed {
+                    seq: k.seq,
+                    status: k.status,
+                }),
+            }
+        }
+    }
+}

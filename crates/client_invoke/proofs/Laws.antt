@@ -1,0 +1,64 @@
+-- Laws of opening and invoking: what a success implies, and what each case comes to. Assumes nothing.
+use Prim.Native.Nat.{ℕ, _+_, _<_, _≤_}
+use mathlib.Core.Path.{_≡_, refl, sym, ap, _∙_}
+use mathlib.Core.List.{List, [], _∷_, _++_}
+use mathlib.Core.Bool.{Bool, true, false}
+use lib.Dec.{ltb, leb, eqb}
+use lib.ListN.{length, drop, length-append}
+use native.Mathlib.Omega.{arith}
+use borrow.Author.Tests.{leb-true, ltb-true, eqb-true}
+use Rattle.slices.specs.Bytes.{bigEndian}
+use Rattle.operation.specs.declared.Operation.{Operation}
+use Rattle.operation.specs.Operation.{allowed, opBytes}
+use Rattle.message.specs.Message.{invokeBytes, itemBytes}
+use Rattle.verify.specs.Verify.{invokeTag}
+use Rattle.verify.proofs.Laws.{invoke-tag-length}
+use Rattle.replica.specs.declared.Replica.{Replica}
+use Rattle.replica.specs.declared.Why.{Why}
+use Rattle.replica.specs.Outcome.{whyNo, invoked}
+use Rattle.replica.specs.Replica.{After, Step, over, stop, stopStep, inRange, noCurrent, firstNo}
+use Rattle.replica.proofs.Laws.{why-not-0, all-yes, ranged, Ranged}
+use Rattle.client_invoke.specs.Invoke.{invokeChecks, invokeNo, newOp, invokedReplica, invokeMessage, invokeStep}
+
+-- what a successful invoke implies
+pub record Invoked (r : Replica) (kind cell amount room : ℕ) : Type 0 where
+  pub range : inRange r ≡ true
+  pub clear : r .halt ≡ 0
+  pub none : noCurrent (r .current) ≡ true
+  pub fine : allowed kind cell amount ≡ true
+  pub below : r .count < 1000000
+  pub enough : 43 ≤ room
+
+pub invoke-yes : (r : Replica) (kind cell amount room : ℕ) → invokeNo r kind cell amount room ≡ 0 → Invoked r kind cell amount room
+unfolding invokeNo
+invoke-yes r kind cell amount room e =
+    let y = all-yes 0 (invokeChecks r kind cell amount room) (refl, (refl, (refl, (refl, (refl, (refl, tt)))))) e .1 in
+    record {
+      range = y .0;
+      clear = eqb-true _ _ (y .1 .0);
+      none = y .1 .1 .0;
+      fine = y .1 .1 .1 .0;
+      below = ltb-true _ _ (y .1 .1 .1 .1 .0);
+      enough = leb-true _ _ (y .1 .1 .1 .1 .1 .0);
+    }
+
+-- the message is 43 bytes long
+pub invoke-length : (r : Replica) (e : Operation) → length (invokeMessage r e) ≡ 43
+unfolding invokeMessage invokeBytes itemBytes opBytes bigEndian
+invoke-length r e = rw (invoke-tag-length (r .keys) e (r .number))
+
+-- the two cases of an invoke
+module _ (r : Replica) (kind cell amount : ℕ) (out : List ℕ) where
+  abbrev step : Step
+  step = invokeStep r kind cell amount (length out)
+
+  pub invoke-stops : (w : Why) → whyNo w ≡ invokeNo r kind cell amount (length out)
+      → (stop r (whyNo w) ≡ step .after) × (out ≡ over (step .wrote) out)
+  unfolding invokeStep
+  invoke-stops w e = (rw (← e, why-not-0 w), rw (← e, why-not-0 w))
+
+  pub invoke-goes : invokeNo r kind cell amount (length out) ≡ 0
+      → (record { replica = invokedReplica r (newOp r kind cell amount); says = invoked (r .count + 1) } ≡ step .after)
+      × (invokeMessage r (newOp r kind cell amount) ++ drop 43 out ≡ over (step .wrote) out)
+  unfolding invokeStep
+  invoke-goes e = (rw e, rw (e, invoke-length r (newOp r kind cell amount)))

@@ -1,0 +1,71 @@
+-- Opening a client and invoking an operation. Document 01, "What a van does" (making an entry) and "The questions, in order".
+use Prim.Native.Nat.{ℕ, _+_}
+use mathlib.Core.List.{List, [], _∷_}
+use mathlib.Core.Bool.{Bool, cond, _&&_}
+use lib.ListN.{length}
+use lib.Dec.{ltb, leb, eqb}
+use Rattle.operation.specs.declared.Operation.{Operation}
+use Rattle.operation.specs.Operation.{allowed}
+use Rattle.message.specs.Message.{invokeBytes}
+use Rattle.verify.specs.Verify.{invokeTag}
+use Rattle.replica.specs.declared.Replica.{Replica}
+use Rattle.replica.specs.Outcome.{Told, opened, invoked}
+use Rattle.replica.specs.Replica.{After, Step, stopStep, inRange, noCurrent, firstNo, refuse, freshReplica, zeroReplica}
+
+-- ---- opening: "van number 1 to 8? 1. Exactly 256 key bytes? 2. A refused opening gives an all-zero book."
+unfoldable pub openNo : ℕ → List ℕ → ℕ
+openNo n keys = firstNo 0 ((leb 1 n && leb n 8, 1) ∷ (eqb (length keys) 256, 2) ∷ [])
+
+unfoldable pub openStep : ℕ → List ℕ → After
+openStep n keys =
+    cond (eqb (openNo n keys) 0)
+    (record { replica = freshReplica n keys; says = opened })
+    (refuse zeroReplica (openNo n keys))
+
+-- ---- invoking
+-- "fields in range? 8 … halt mark clear? 3 … no entry in hand? 4. Kind, cell, amount allowed? 5. Own count below 1,000,000? 6. 43 bytes lent? 7."
+abbrev pub invokeChecks : Replica → ℕ → ℕ → ℕ → ℕ → List (Bool × ℕ)
+invokeChecks r kind cell amount room =
+    (inRange r, 8)
+    ∷ (eqb (r .halt) 0, 3)
+    ∷ (noCurrent (r .current), 4)
+    ∷ (allowed kind cell amount, 5)
+    ∷ (ltb (r .count) 1000000, 6)
+    ∷ (leb 43 room, 7)
+    ∷ []
+
+unfoldable pub invokeNo : Replica → ℕ → ℕ → ℕ → ℕ → ℕ
+invokeNo r kind cell amount room = firstNo 0 (invokeChecks r kind cell amount room)
+
+-- "Own counts rise by one from 1."
+abbrev pub newOp : Replica → ℕ → ℕ → ℕ → Operation
+newOp r kind cell amount = record { count = r .count + 1; kind = kind; cell = cell; amount = amount; last = 0 }
+
+-- "Making an entry raises the own count, puts the entry in hand …"
+abbrev pub invokedReplica : Replica → Operation → Replica
+invokedReplica r e =
+    record {
+      number = r .number;
+      keys = r .keys;
+      count = e .count;
+      current = e;
+      confirmed = r .confirmed;
+      held = r .held;
+      chain = r .chain;
+      statuses = r .statuses;
+      cells = r .cells;
+      halt = r .halt;
+    }
+
+-- "… and writes `IN`."
+unfoldable pub invokeMessage : Replica → Operation → List ℕ
+invokeMessage r e = invokeBytes (record { op = e; author = r .number; tag = invokeTag (r .keys) e (r .number) })
+
+unfoldable pub invokeStep : Replica → ℕ → ℕ → ℕ → ℕ → Step
+invokeStep r kind cell amount room =
+    cond (eqb (invokeNo r kind cell amount room) 0)
+    (record {
+      after = record { replica = invokedReplica r (newOp r kind cell amount); says = invoked (r .count + 1) };
+      wrote = invokeMessage r (newOp r kind cell amount);
+    })
+    (stopStep r (invokeNo r kind cell amount room))

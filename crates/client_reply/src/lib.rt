@@ -1,0 +1,401 @@
+// Taking a reply. Definitions: specs/Reply.antt.
+ghost use mathlib.Core.Path.{_≡_};
+ghost use Prim.Native.Nat.{_+_, _*_, _<_, _≤_};
+ghost use mathlib.Core.List.{_∷_, [], _++_};
+ghost use lib.ListN.{length, take, drop};
+ghost use Rattle.message.specs.Message.{replyCount, replyItem};
+ghost use Rattle.replica.specs.Outcome.{checkNo, doneTold};
+ghost use Rattle.replica.specs.Replica.{afterOf, firstNo, over};
+ghost use Rattle.client_reply.specs.Reply.{itemOk, itemValue, itemChainOk, proofChecks, itemChecks, itemsChecks, lastOk, formChecks, replyNo, chainItem, chainTo, sortItem, sortTo, isAborted, lastResponse, saysOf, status, heldStatus, larger, repliedReplica, commitMessage, replyStep};
+ghost use Rattle.client_reply.specs.Lists.{lists, Full};
+use message::Commit;
+use message::Item;
+use operation::Operation;
+use operation::Response;
+use replica::Check;
+use replica::Done;
+use replica::Halt;
+use replica::Outcome;
+use replica::Refusal;
+use replica::Replica;
+use replica::Stepped;
+use replica::Why;
+
+// The two lists: the first `n` of `others`, the first `m` of `own`.
+pub struct Lists {
+    pub others: [Operation; 32],
+    pub n: usize,
+    pub own: [Operation; 32],
+    pub m: usize,
+}
+
+// Item `k` of a reply.
+fn item_of(m: &[u8], k: usize) -> Item
+    requires { ⌜ 44 + k * 41 ≤ length (now m) ⌝ }
+    ensures { λ r. ⌜ r ≡ replyItem (now (m .entry)) k ⌝ }
+{
+    message::read_item(m, 3 + k * 41)
+}
+
+fn form_check(r: Replica, m: &[u8], room: usize) -> Check
+    ensures { λ q. ⌜ checkNo q ≡ firstNo 0 (formChecks r (now (m .entry)) room) ⌝ }
+{
+    let q = replica::also(
+        Check::Pass,
+        replica::in_range(r),
+        Why::Refuse(Refusal::Range),
+    );
+    let q = replica::also(q, r.halt == 0, Why::Refuse(Refusal::HaltMark));
+    let q = replica::also(q, message::is_reply(m), Why::Halt(Halt::Form));
+    replica::also(q, 80 <= room, Why::Refuse(Refusal::Room))
+}
+
+fn item_ok(c: u32, k: usize, i: Item) -> bool
+    requires { ⌜ k < 32 ⌝ }
+    ensures { λ r. ⌜ r ≡ itemOk c k i ⌝ }
+{
+    let e = i.op;
+    let seq = c as u64 + (k as u64 + 1);
+    operation::op_ok(e) & (1 <= i.author) & (i.author <= 8) & (seq <= 1000000)
+}
+
+// The chain value of item `k`, from the one before it.
+fn item_value(c: u32, k: usize, i: Item, chain: [u8; 1056]) -> [u8; 32]
+    requires { ⌜ (k < 32) × (c ≤ 1000000) ⌝ }
+    ensures { λ r. ⌜ r ≡ itemValue c k i chain ⌝ }
+{
+    let e = i.op;
+    let v = verify::value_at(chain, k);
+    verify::link_value(v, e, c + (k as u32 + 1), i.author)
+}
+
+fn item_chain_ok(c: u32, held: u32, chain: [u8; 1056], k: usize, i: Item) -> bool
+    requires { ⌜ (k < 32) × (c ≤ 1000000) ⌝ }
+    ensures { λ r. ⌜ r ≡ itemChainOk c held chain k i ⌝ }
+{
+    if k < held as usize {
+        let v = item_value(c, k, i, chain);
+        let w = verify::value_at(chain, k + 1);
+        slices::equal(&v, &w)
+    } else {
+        true
+    }
+}
+
+// Tag and chain of item `k`, once its content is allowed.
+fn item_proof(r: Replica, k: usize, i: Item) -> Check
+    requires { ⌜ (k < 32) × (r .confirmed ≤ 1000000) × (1 ≤ i .author) × (i .author ≤ 8) ⌝ }
+    ensures { λ q. ⌜ checkNo q ≡ firstNo 0 (proofChecks r k i) ⌝ }
+{
+    let keys = r.keys;
+    let chain = r.chain;
+    let q = replica::also(
+        Check::Pass,
+        verify::item_tag_ok(keys, i),
+        Why::Halt(Halt::Tag),
+    );
+    replica::also(
+        q,
+        item_chain_ok(r.confirmed, r.held, chain, k, i),
+        Why::Halt(Halt::Chain),
+    )
+}
+
+// The checks of item `k`.
+fn item_check(r: Replica, k: usize, i: Item) -> Check
+    requires { ⌜ (k < 32) × (r .confirmed ≤ 1000000) ⌝ }
+    ensures { λ q. ⌜ checkNo q ≡ firstNo 0 (itemChecks r k i) ⌝ }
+{
+    if item_ok(r.confirmed, k, i) {
+        item_proof(r, k, i)
+    } else {
+        Check::No(Why::Halt(Halt::Content))
+    }
+}
+
+// The first no so far, else that of item `k`.
+fn item_also(so_far: Check, r: Replica, k: usize, i: Item) -> Check
+    requires { ⌜ (k < 32) × (r .confirmed ≤ 1000000) ⌝ }
+    ensures { λ q. ⌜ checkNo q ≡ firstNo (checkNo «so_far») (itemChecks r k i) ⌝ }
+{
+    match so_far {
+        Check::No(w) => Check::No(w),
+        Check::Pass => item_check(r, k, i),
+    }
+}
+
+// The checks of the first `n` items.
+fn items_check(r: Replica, m: &[u8], n: usize) -> Check
+    requires { ⌜ (n ≤ 32) × (r .confirmed ≤ 1000000) × (3 + n * 41 ≤ length (now m)) ⌝ }
+    ensures { λ q. ⌜ checkNo q ≡ firstNo 0 (itemsChecks r (now (m .entry)) n) ⌝ }
+{
+    let mut q = Check::Pass;
+    let mut k = 0;
+    while k < n {
+        let i = item_of(m, k);
+        q = item_also(q, r, k, i);
+        k += 1;
+    }
+    q
+}
+
+fn last_ok(r: Replica, m: &[u8], n: usize) -> bool
+    requires { ⌜ (n ≡ replyCount (now m)) × (3 + n * 41 ≤ length (now m)) ⌝ }
+    ensures { λ q. ⌜ q ≡ lastOk r (now (m .entry)) ⌝ }
+{
+    if 1 <= n {
+        let i = item_of(m, n - 1);
+        let e = i.op;
+        let current = r.current;
+        operation::same_op(e, current) & (i.author == r.number)
+    } else {
+        false
+    }
+}
+
+// All the checks of a reply, in their order.
+fn reply_check(r: Replica, m: &[u8], room: usize) -> Check
+    ensures { λ q. ⌜ checkNo q ≡ replyNo r (now (m .entry)) room ⌝ }
+{
+    match form_check(r, m, room) {
+        Check::No(why) => Check::No(why),
+        Check::Pass => {
+            let n = m[2] as usize;
+            let q = items_check(r, m, n);
+            replica::also(q, last_ok(r, m, n), Why::Halt(Halt::Last))
+        }
+    }
+}
+
+// The chain with the value of item `k` held.
+fn chain_item(c: u32, held: u32, k: usize, i: Item, chain: [u8; 1056]) -> [u8; 1056]
+    requires { ⌜ (k < 32) × (c ≤ 1000000) ⌝ }
+    ensures { λ r. ⌜ r ≡ chainItem c held k i chain ⌝ }
+{
+    if k < held as usize {
+        chain
+    } else {
+        let v = item_value(c, k, i, chain);
+        let mut t = chain;
+        slices::copy_to(&mut t, (k + 1) * 32, &v);
+        t
+    }
+}
+
+fn chain_to(c: u32, held: u32, m: &[u8], chain: [u8; 1056], n: usize) -> [u8; 1056]
+    requires { ⌜ (n ≤ 32) × (c ≤ 1000000) × (3 + n * 41 ≤ length (now m)) ⌝ }
+    ensures { λ r. ⌜ r ≡ chainTo c held (now (m .entry)) chain n ⌝ }
+{
+    let mut t = chain;
+    let mut k = 0;
+    while k < n {
+        let i = item_of(m, k);
+        let u = chain_item(c, held, k, i, t);
+        t = u;
+        k += 1;
+    }
+    t
+}
+
+fn no_lists() -> Lists
+    ensures { λ r. ⌜ (r .n ≡ 0) × (r .m ≡ 0) ⌝ }
+{
+    let e = Operation {
+        count: 0,
+        kind: 0,
+        cell: 0,
+        amount: 0,
+        last: 0,
+    };
+    Lists {
+        others: [e; 32],
+        n: 0,
+        own: [e; 32],
+        m: 0,
+    }
+}
+
+// One operation more after the first `n`.
+fn put_op(es: [Operation; 32], n: usize, e: Operation) -> [Operation; 32]
+    requires { ⌜ n < 32 ⌝ }
+    ensures { λ r. ⌜ take (n + 1) r ≡ take n es ++ (e ∷ []) ⌝ }
+{
+    let mut t = es;
+    t[n] = e;
+    t
+}
+
+fn push_other(l: Lists, e: Operation) -> Lists
+    requires { ⌜ l .n < 32 ⌝ }
+    ensures { λ r. ⌜ (lists r ≡ record { others = lists l .others ++ (e ∷ []); own = lists l .own }) × (r .n ≡ l .n + 1) × (r .m ≡ l .m) ⌝ }
+{
+    let n = l.n;
+    let old = l.others;
+    let es = put_op(old, n, e);
+    let mut t = l;
+    t.others = es;
+    t.n = n + 1;
+    t
+}
+
+fn push_own(l: Lists, e: Operation) -> Lists
+    requires { ⌜ l .m < 32 ⌝ }
+    ensures { λ r. ⌜ (lists r ≡ record { others = lists l .others; own = lists l .own ++ (e ∷ []) }) × (r .n ≡ l .n) × (r .m ≡ l .m + 1) ⌝ }
+{
+    let m = l.m;
+    let old = l.own;
+    let es = put_op(old, m, e);
+    let mut t = l;
+    t.own = es;
+    t.m = m + 1;
+    t
+}
+
+// Item `k` put into its list.
+fn sort_item(l: Lists, number: u8, statuses: [u8; 32], k: usize, i: Item) -> Lists
+    requires { ⌜ (k < 32) × Full l k ⌝ }
+    ensures { λ r. ⌜ (lists r ≡ sortItem number statuses k i (lists l)) × Full r (k + 1) ⌝ }
+{
+    let e = i.op;
+    if i.author == number {
+        if statuses[k] == 1 { push_own(l, e) } else { l }
+    } else {
+        push_other(l, e)
+    }
+}
+
+// The first `n` items in their lists.
+fn sort_to(number: u8, statuses: [u8; 32], m: &[u8], n: usize) -> Lists
+    requires { ⌜ (n ≤ 32) × (3 + n * 41 ≤ length (now m)) ⌝ }
+    ensures { λ r. ⌜ (lists r ≡ sortTo number statuses (now (m .entry)) n) × Full r n ⌝ }
+{
+    let mut l = no_lists();
+    let mut k = 0;
+    while k < n {
+        let i = item_of(m, k);
+        l = sort_item(l, number, statuses, k, i);
+        k += 1;
+    }
+    l
+}
+
+// Whether the current operation is aborted, and its response if not.
+pub struct Verdict {
+    pub aborted: bool,
+    pub response: Response,
+}
+
+fn decide(r: Replica, m: &[u8], n: usize) -> Verdict
+    requires { ⌜ (n ≡ replyCount (now m)) × (1 ≤ n) × (n ≤ 32) × (3 + n * 41 ≤ length (now m)) ⌝ }
+    ensures { λ v. ⌜ (v .aborted ≡ isAborted r (now (m .entry))) × (v .response ≡ lastResponse r (now (m .entry))) ⌝ }
+{
+    let statuses = r.statuses;
+    let cells = r.cells;
+    let current = r.current;
+    let l = sort_to(r.number, statuses, m, n - 1);
+    let earlier = l.own;
+    let t = push_own(l, current);
+    let others = t.others;
+    let own = t.own;
+    Verdict {
+        aborted: conflict::conflict(cells, others, t.n, own, t.m),
+        response: operation::response_on(current, operation::run_all(earlier, l.m, cells)),
+    }
+}
+
+fn held_status(aborted: bool) -> u8
+    ensures { λ r. ⌜ r ≡ heldStatus «aborted» ⌝ }
+{
+    if aborted { 2 } else { 1 }
+}
+
+fn status_of(aborted: bool) -> u8
+    ensures { λ r. ⌜ r ≡ status «aborted» ⌝ }
+{
+    if aborted { 0 } else { 1 }
+}
+
+fn larger_of(a: u32, b: u32) -> u32
+    ensures { λ r. ⌜ r ≡ larger a b ⌝ }
+{
+    if a < b { b } else { a }
+}
+
+fn replied_replica(r: Replica, chain: [u8; 1056], n: u8, aborted: bool) -> Replica
+    requires { ⌜ (1 ≤ n) × (n ≤ 32) ⌝ }
+    ensures { λ q. ⌜ q ≡ repliedReplica r chain n «aborted» ⌝ }
+{
+    let k = n as usize - 1;
+    let none = Operation {
+        count: 0,
+        kind: 0,
+        cell: 0,
+        amount: 0,
+        last: 0,
+    };
+    let mut b = r;
+    b.current = none;
+    b.held = larger_of(r.held, n as u32);
+    b.chain = chain;
+    b.statuses[k] = held_status(aborted);
+    b
+}
+
+fn says(v: Verdict, seq: u32) -> Done
+    ensures { λ r. ⌜ doneTold r ≡ saysOf (v .aborted) (v .response) seq ⌝ }
+{
+    if v.aborted {
+        Done::Aborted { seq }
+    } else {
+        Done::Responded {
+            seq,
+            response: v.response,
+        }
+    }
+}
+
+// Writes the commit.
+fn write_commit(r: Replica, chain: [u8; 1056], n: u8, aborted: bool, out: &mut [u8])
+    requires { ⌜ (n ≤ 32) × (r .confirmed ≤ 1000000) × (1 ≤ r .number) × (r .number ≤ 8) × (80 ≤ length (now out)) ⌝ }
+    ensures { λ _. ⌜ now (out .exit) ≡ commitMessage r chain n «aborted» ++ drop 80 (now (out .entry)) ⌝ }
+{
+    let keys = r.keys;
+    let current = r.current;
+    let seq = r.confirmed + n as u32;
+    let status = status_of(aborted);
+    let digest = verify::value_at(chain, n as usize);
+    let tag = verify::commit_tag(keys, current, r.number, seq, digest, status);
+    message::write_commit(
+        out,
+        Commit {
+            op: current,
+            author: r.number,
+            seq,
+            digest,
+            status,
+            tag,
+        },
+    );
+}
+
+// Takes a reply (document 01: `RE`).
+pub fn reply(r: Replica, m: &[u8], out: &mut [u8]) -> Stepped
+    ensures { λ q. ⌜ (afterOf q ≡ replyStep r (now (m .entry)) (length (now (out .entry))) .after)
+        × (now (out .exit) ≡ over (replyStep r (now (m .entry)) (length (now (out .entry))) .wrote) (now (out .entry))) ⌝ }
+{
+    let room = out.len();
+    match reply_check(r, m, room) {
+        Check::No(why) => replica::stopped(r, why),
+        Check::Pass => {
+            let n = m[2];
+            let old = r.chain;
+            let v = decide(r, m, n as usize);
+            let chain = chain_to(r.confirmed, r.held, m, old, n as usize);
+            write_commit(r, chain, n, v.aborted, out);
+            Stepped {
+                replica: replied_replica(r, chain, n, v.aborted),
+                outcome: Outcome::Success(says(v, r.confirmed + n as u32)),
+            }
+        }
+    }
+}

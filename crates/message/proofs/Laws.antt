@@ -1,0 +1,203 @@
+-- Laws of the definitions of specs/: writing part by part, tests, lengths.
+use Prim.Native.Nat.{ℕ, _+_, _*_, _<_, _≤_}
+use mathlib.Core.Path.{_≡_, refl, sym, ap, _∙_}
+use mathlib.Core.List.{List, [], _∷_, _++_, append-nil, append-assoc}
+use mathlib.Core.Bool.{true, _&&_}
+use lib.Dec.{leb, eqb}
+use lib.ListN.{length, getD, take, drop, replicate, length-append, length-take, length-drop, drop-of-length-le, take-append-drop}
+use lib.Seq.{take-append-seam, drop-append-add, drop-drop, length-take-le, take-at, take-suc}
+use native.Mathlib.Omega.{arith}
+use native.Mathlib.Numerals.{add-one}
+use borrow.Author.Needs.{needs}
+use borrow.Author.Tests.{leb-true, eqb-true}
+use Rattle.slices.specs.Bytes.{put, bigEndian}
+use Rattle.operation.specs.declared.Operation.{Operation}
+use Rattle.operation.specs.Operation.{opBytes}
+use Rattle.operation.proofs.RoundTrip.{and-left, and-right}
+use Rattle.message.specs.declared.Item.{Item}
+use Rattle.message.specs.declared.Commit.{Commit}
+use Rattle.message.specs.Readers.{ItemsFit, none, more}
+use Rattle.message.specs.Message.{invokeString, commitString, chainString, itemBytes, itemsBytes, commitFields, invokeBytes, replyBytes, commitBytes, broadcastBytes, marked, isInvoke, isReply, isCommit, isBroadcast, replyCount}
+
+-- ---- parts written one after the other
+pub put-next : (p z s : List ℕ) (n k : ℕ) → length p ≡ n → n + length s ≡ k → put (p ++ drop n z) n s ≡ p ++ s ++ drop k z
+put-next p z s n k e h = rw (← h, ← e, take-append-seam p (drop (length p) z), drop-append-add p (drop (length p) z) (length s), drop-drop)
+
+module _ (z A B : List ℕ) (at a b : ℕ) (l : at ≤ length z) (ha : at + length A ≡ a) (hb : a + length B ≡ b) where
+  pub two-parts : put (put z at A) a B ≡ take at z ++ A ++ B ++ drop b z
+  two-parts = rw ha (put-next (take at z ++ A) z B a b (simp (length-append, length-take) (omega arith)) hb)
+
+  pub three-parts : (C : List ℕ) (c : ℕ) → b + length C ≡ c → put (put (put z at A) a B) b C ≡ take at z ++ A ++ B ++ C ++ drop c z
+  three-parts C c hc = rw two-parts (put-next (take at z ++ A ++ B) z C b c (simp (length-append, length-take) (omega arith)) hc)
+
+  pub four-parts : (C D : List ℕ) (c d : ℕ) → b + length C ≡ c → c + length D ≡ d
+      → put (put (put (put z at A) a B) b C) c D ≡ take at z ++ A ++ B ++ C ++ D ++ drop d z
+  four-parts C D c d hc hd = rw (three-parts C c hc) (put-next (take at z ++ A ++ B ++ C) z D c d (simp (length-append, length-take) (omega arith)) hd)
+
+pub part-all : (z s : List ℕ) (n : ℕ) → length z ≡ n → length s ≡ n → put z 0 s ≡ s
+part-all z s n e h = let g : length z ≤ 0 + length s = omega arith in let d : drop (0 + length s) z ≡ [] = drop-of-length-le z g in rw d (append-nil s)
+
+pub front-parts : (a b : ℕ) (e : Operation) (author seq : ℕ) (digest : List ℕ) (status : ℕ) → length digest ≡ 32
+    → put (put (put (put (replicate 48 0) 0 (a ∷ b ∷ opBytes e ++ (author ∷ []))) 11 (bigEndian 4 seq)) 15 digest) 47 (status ∷ [])
+    ≡ a ∷ b ∷ opBytes e ++ (author ∷ bigEndian 4 seq) ++ digest ++ (status ∷ [])
+unfolding opBytes bigEndian
+front-parts a b e author seq digest status h =
+    four-parts (replicate 48 0) (a ∷ b ∷ opBytes e ++ (author ∷ [])) (bigEndian 4 seq) 0 11 15 (search needs) refl refl digest (status ∷ []) 47 48 (omega arith) refl
+    ∙ append-nil _
+
+pub chain-parts : (value : List ℕ) (e : Operation) (seq author : ℕ) → length value ≡ 32
+    → put (put (put (put (replicate 45 0) 0 value) 32 (opBytes e)) 40 (bigEndian 4 seq)) 44 (author ∷ [])
+    ≡ value ++ opBytes e ++ bigEndian 4 seq ++ (author ∷ [])
+unfolding opBytes bigEndian
+chain-parts value e seq author h =
+    four-parts (replicate 45 0) value (opBytes e) 0 32 40 (search needs) (omega arith) refl (bigEndian 4 seq) (author ∷ []) 44 45 refl refl
+    ∙ append-nil _
+
+pub item-parts : (z : List ℕ) (at : ℕ) (i : Item) → length (i .tag) ≡ 32 → at + 41 ≤ length z
+    → put (put (put z at (opBytes (i .op))) (at + 8) (i .author ∷ [])) (at + 9) (i .tag) ≡ take at z ++ itemBytes i ++ drop (at + 41) z
+unfolding itemBytes opBytes bigEndian
+item-parts z at i h l =
+    three-parts z (opBytes (i .op)) (i .author ∷ []) at (at + 8) (at + 9) (omega arith) refl (omega arith) (i .tag) (at + 41) (omega arith)
+    ∙ simp append-assoc
+
+pub commit-parts : (z : List ℕ) (at a b : ℕ) (k : Commit) → length (k .digest) ≡ 32 → length (k .tag) ≡ 32 → at + 80 ≤ length z
+    → put (put z at (a ∷ b ∷ opBytes (k .op) ++ (k .author ∷ bigEndian 4 (k .seq)) ++ k .digest ++ (k .status ∷ []))) (at + 48) (k .tag)
+    ≡ take at z ++ (a ∷ b ∷ commitFields k) ++ drop (at + 80) z
+unfolding commitFields opBytes bigEndian
+commit-parts z at a b k hd ht l =
+    two-parts z (a ∷ b ∷ opBytes (k .op) ++ (k .author ∷ bigEndian 4 (k .seq)) ++ k .digest ++ (k .status ∷ [])) (k .tag) at (at + 48) (at + 80) (omega arith)
+    (simp length-append (omega arith)) (omega arith)
+    ∙ simp append-assoc
+
+pub invoke-parts : (z : List ℕ) (i : Item) → 2 ≤ length z
+    → take 2 (put z 0 (73 ∷ 78 ∷ [])) ++ itemBytes i ++ drop (2 + 41) (put z 0 (73 ∷ 78 ∷ [])) ≡ invokeBytes i ++ drop 43 z
+unfolding invokeBytes
+invoke-parts z i h = rw (drop-drop 41 2 z)
+
+-- ---- items
+pub items-join : (is js : List Item) → itemsBytes (is ++ js) ≡ itemsBytes is ++ itemsBytes js
+unfolding itemsBytes
+items-join [] js = refl
+items-join (i ∷ is) js = rw (items-join is js) (sym (append-assoc (itemBytes i) (itemsBytes is) (itemsBytes js)))
+
+pub items-more : (is : List Item) (i : Item) → itemsBytes (is ++ (i ∷ [])) ≡ itemsBytes is ++ itemBytes i
+unfolding itemsBytes
+items-more is i = items-join is (i ∷ []) ∙ ap (λ (s : List ℕ). itemsBytes is ++ s) (append-nil (itemBytes i))
+
+-- the buffer with k items after its first three bytes
+pub reply-start : (z : List ℕ) (is : List Item) → z ≡ take 3 z ++ itemsBytes (take 0 is) ++ drop (3 + 0 * 41) z
+unfolding itemsBytes
+reply-start z is = sym (rw append-nil (take-append-drop 3 z))
+
+pub reply-more : (z out : List ℕ) (is : List Item) (d : Item) (k : ℕ)
+    → 3 + (k + 1) * 41 ≤ length z → length out ≡ length z → k < length is
+    → out ≡ take 3 z ++ itemsBytes (take k is) ++ drop (3 + k * 41) z
+    → take (3 + k * 41) out ++ itemBytes (getD is k d) ++ drop (3 + k * 41 + 41) out ≡ take 3 z ++ itemsBytes (take (k + 1) is) ++ drop (3 + (k + 1) * 41) z
+reply-more z out is d k h l g q =
+    let p : List ℕ = take 3 z ++ itemsBytes (take k is) in
+    let n : ℕ = 3 + k * 41 in
+    let w : length (p ++ drop n z) ≡ length z = ap length (sym q) ∙ l in
+    let v : length p ≡ n = omega (arith, length-append p (drop n z), length-drop n z) in
+    let t : take n (p ++ drop n z) ≡ p = take-at p (drop n z) n v in
+    let r : drop (n + 41) (p ++ drop n z) ≡ drop (n + 41) z = rw (← v) (drop-append-add p (drop (length p) z) 41 ∙ drop-drop 41 (length p) z) in
+    let m : take (k + 1) is ≡ take k is ++ (getD is k d ∷ []) = rw add-one (take-suc is k d g) in
+    let f : 3 + (k + 1) * 41 ≡ n + 41 = omega arith in
+    rw (q, t, r, f, m, items-more) (ap (λ (x : List ℕ). x ++ drop (n + 41) z) (append-assoc (take 3 z) (itemsBytes (take k is)) (itemBytes (getD is k d))))
+
+pub reply-end : (out : List ℕ) (is : List Item) (n : ℕ) → n ≤ length is
+    → take 3 (put out 0 (82 ∷ 69 ∷ n ∷ [])) ++ itemsBytes (take n is) ++ drop (3 + n * 41) (put out 0 (82 ∷ 69 ∷ n ∷ []))
+    ≡ replyBytes (take n is) ++ drop (3 + n * 41) out
+unfolding replyBytes
+reply-end out is n h = rw (length-take-le n is h, drop-append-add (82 ∷ 69 ∷ n ∷ []) (drop 3 out) (n * 41), drop-drop (n * 41) 3 out)
+
+-- ---- tests
+pub invoke-mark : (m : List ℕ) → isInvoke m ≡ true → marked 73 78 m ≡ true
+unfolding isInvoke
+invoke-mark m e = and-left (marked 73 78 m) _ e
+
+pub invoke-length : (m : List ℕ) → isInvoke m ≡ true → length m ≡ 43
+unfolding isInvoke
+invoke-length m e = eqb-true _ _ (and-right (marked 73 78 m) _ e)
+
+pub commit-mark : (m : List ℕ) → isCommit m ≡ true → marked 67 79 m ≡ true
+unfolding isCommit
+commit-mark m e = and-left (marked 67 79 m) _ e
+
+pub commit-length : (m : List ℕ) → isCommit m ≡ true → length m ≡ 80
+unfolding isCommit
+commit-length m e = eqb-true _ _ (and-right (marked 67 79 m) _ e)
+
+pub broadcast-mark : (m : List ℕ) → isBroadcast m ≡ true → marked 66 82 m ≡ true
+unfolding isBroadcast
+broadcast-mark m e = and-left (marked 66 82 m) _ e
+
+pub broadcast-length : (m : List ℕ) → isBroadcast m ≡ true → length m ≡ 80
+unfolding isBroadcast
+broadcast-length m e = eqb-true _ _ (and-right (marked 66 82 m) _ e)
+
+pub reply-mark : (m : List ℕ) → isReply m ≡ true → marked 82 69 m ≡ true
+unfolding isReply
+reply-mark m e = and-left (marked 82 69 m) _ (and-left _ _ (and-left _ (eqb (length m) (3 + replyCount m * 41)) e))
+
+pub reply-length : (m : List ℕ) → isReply m ≡ true → length m ≡ 3 + replyCount m * 41
+unfolding isReply
+reply-length m e = eqb-true _ _ (and-right (marked 82 69 m && leb 3 (length m) && leb (replyCount m) 32) _ e)
+
+pub reply-count : (m : List ℕ) → isReply m ≡ true → replyCount m ≤ 32
+unfolding isReply
+reply-count m e = leb-true _ _ (and-right (marked 82 69 m && leb 3 (length m)) _ (and-left _ (eqb (length m) (3 + replyCount m * 41)) e))
+
+-- ---- lengths
+pub op-length : (e : Operation) → length (opBytes e) ≡ 8
+unfolding opBytes bigEndian
+op-length e = refl
+
+pub item-length : (i : Item) → length (i .tag) ≡ 32 → length (itemBytes i) ≡ 41
+unfolding itemBytes opBytes bigEndian
+item-length i h = rw h
+
+pub items-length : {is : List Item} → ItemsFit is → length (itemsBytes is) ≡ length is * 41
+unfolding itemsBytes
+items-length none = refl
+items-length (more {i = i} {is = is} f fs) = rw length-append (omega (arith, item-length i (f .tag), items-length fs))
+
+pub invoke-string-length : (e : Operation) (author : ℕ) → length (invokeString e author) ≡ 11
+unfolding invokeString opBytes bigEndian
+invoke-string-length e author = refl
+
+pub commit-string-length : (e : Operation) (author seq : ℕ) (digest : List ℕ) (status : ℕ) → length digest ≡ 32 → length (commitString e author seq digest status) ≡ 48
+unfolding commitString opBytes bigEndian
+commit-string-length e author seq digest status h = rw (length-append digest (status ∷ []), h)
+
+pub chain-string-length : (value : List ℕ) (e : Operation) (seq author : ℕ) → length value ≡ 32 → length (chainString value e seq author) ≡ 45
+unfolding chainString opBytes bigEndian
+chain-string-length value e seq author h = simp (length-append, h)
+
+pub invoke-bytes-length : (i : Item) → length (i .tag) ≡ 32 → length (invokeBytes i) ≡ 43
+unfolding invokeBytes
+invoke-bytes-length i h = rw (item-length i h)
+
+pub fields-length : (k : Commit) → length (k .digest) ≡ 32 → length (k .tag) ≡ 32 → length (commitFields k) ≡ 78
+unfolding commitFields opBytes bigEndian
+fields-length k h t = rw (length-append (k .digest) (k .status ∷ k .tag), h, t)
+
+pub commit-bytes-length : (k : Commit) → length (k .digest) ≡ 32 → length (k .tag) ≡ 32 → length (commitBytes k) ≡ 80
+unfolding commitBytes
+commit-bytes-length k h t = rw (fields-length k h t)
+
+pub broadcast-bytes-length : (k : Commit) → length (k .digest) ≡ 32 → length (k .tag) ≡ 32 → length (broadcastBytes k) ≡ 80
+unfolding broadcastBytes
+broadcast-bytes-length k h t = rw (fields-length k h t)
+
+pub reply-bytes-length : {is : List Item} → ItemsFit is → length (replyBytes is) ≡ 3 + length is * 41
+unfolding replyBytes
+reply-bytes-length fs = omega (arith, items-length fs)
+
+-- ---- a message is the string under its tag, and the tag
+pub invoke-tagged : (i : Item) → invokeString (i .op) (i .author) ++ i .tag ≡ invokeBytes i
+unfolding invokeString invokeBytes itemBytes opBytes bigEndian
+invoke-tagged i = refl
+
+pub commit-tagged : (k : Commit) → commitString (k .op) (k .author) (k .seq) (k .digest) (k .status) ++ k .tag ≡ commitBytes k
+unfolding commitString commitBytes commitFields opBytes bigEndian
+commit-tagged k = rw (append-assoc (k .digest) (k .status ∷ []) (k .tag))

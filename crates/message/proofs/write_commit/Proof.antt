@@ -1,0 +1,17 @@
+use Rattle.message.specs.Message.{commitBytes}
+use borrow.Author.Needs.{needs}
+use Rattle.message.proofs.write_commit.Statement.{statement}
+use Rattle.message.proofs.write_commit.Tie as tie
+
+write-marked-requires : tie.Need-write-marked-requires
+write-marked-requires c κs = search needs
+
+same-length : tie.Need-same-length
+same-length c = search needs
+
+returns : tie.Need-returns
+unfolding commitBytes
+returns c = search needs
+
+pub write-commit-spec : {M : Type 1} → statement M
+write-commit-spec = tie.close (tie.spec write-marked-requires same-length returns)

@@ -1,0 +1,51 @@
+use mathlib.Core.Path.{_≡_}
+use native.Mathlib.Omega.{arith}
+use lib.ListN.{length}
+use Rattle.message.proofs.Laws.{commit-parts}
+use borrow.Author.Needs.{needs}
+use Rattle.message.proofs.write_marked.Statement.{statement}
+use Rattle.message.proofs.write_marked.Tie as tie
+
+front-requires : tie.Need-front-requires
+front-requires c κs = search needs
+
+slice-aggregate-copy-to : tie.Need-slice-aggregate-copy-to
+slice-aggregate-copy-to c = search needs
+
+copy-to-requires : tie.Need-copy-to-requires
+copy-to-requires c κs = search needs
+
+add-copy-to : tie.Need-add-copy-to
+add-copy-to c = search needs
+
+slice-aggregate-copy-to-2 : tie.Need-slice-aggregate-copy-to-2
+slice-aggregate-copy-to-2 c = search needs
+
+copy-to-requires-2 : tie.Need-copy-to-requires-2
+copy-to-requires-2 c κs =
+    let a = c .before .before .before .before .before .before .before .before .before .before .before .args in
+    let h : length (a .k .tag) ≡ 32 = search needs in
+    let l : length (c .before .before .before .before .copy-to .last .0) ≡ length (a .out .now) = search needs in
+    omega arith
+
+same-length : tie.Need-same-length
+same-length c = search needs
+
+returns : tie.Need-returns
+returns c =
+    let a = c .before .before .before .before .before .before .before .before .before .before .before .before .before .before .args in
+    rw (c .before .before .copy-to2 .ensures, c .before .before .before .before .before .before .before .copy-to .ensures, c .before .before .before .before .before .before .before .before .before .before .front .ensures)
+    (commit-parts (a .out .now) (a .at) (a .a) (a .b) (a .k) (search needs) (search needs) (search needs))
+
+pub write-marked-spec : {M : Type 1} → statement M
+write-marked-spec =
+    tie.close
+    (tie.spec
+    front-requires
+    slice-aggregate-copy-to
+    copy-to-requires
+    add-copy-to
+    slice-aggregate-copy-to-2
+    copy-to-requires-2
+    same-length
+    returns)

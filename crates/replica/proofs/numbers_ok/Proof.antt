@@ -1,0 +1,23 @@
+use Rattle.replica.specs.Replica.{numbersOk}
+use mathlib.Core.Path.{refl}
+use borrow.Author.Needs.{needs}
+use Rattle.replica.proofs.numbers_ok.Statement.{statement}
+use Rattle.replica.proofs.numbers_ok.Tie as tie
+use Rattle.replica.proofs.numbers_ok.Reads as reads
+use Rattle.replica.proofs.numbers_ok.Lts as lts
+
+cast-last : tie.Need-cast-last
+cast-last c = search needs
+
+cast-last-2 : tie.Need-cast-last-2
+cast-last-2 c = search needs
+
+add-last : tie.Need-add-last
+add-last c = search needs
+
+returns : tie.Need-returns
+unfolding numbersOk
+returns c = refl
+
+pub numbers-ok-spec : {M : Type 1} → statement M
+numbers-ok-spec = tie.close (tie.spec cast-last cast-last-2 add-last returns)

@@ -1,0 +1,68 @@
+-- What a call tells: document 01's number and values for each case of the enums.
+use Prim.Native.Nat.{ℕ}
+use Rattle.operation.specs.Operation.{Response}
+use Rattle.replica.specs.declared.Refusal.{Refusal}
+use Rattle.replica.specs.declared.Refusal.the-variants as R
+use Rattle.replica.specs.declared.Halt.{Halt}
+use Rattle.replica.specs.declared.Halt.the-variants as H
+use Rattle.replica.specs.declared.Done.{Done}
+use Rattle.replica.specs.declared.Done.the-variants as D
+use Rattle.replica.specs.declared.Outcome.{Outcome}
+use Rattle.replica.specs.declared.Outcome.the-variants as O
+use Rattle.replica.specs.declared.Why.{Why}
+use Rattle.replica.specs.declared.Why.the-variants as W
+use Rattle.replica.specs.declared.Check.{Check}
+use Rattle.replica.specs.declared.Check.the-variants as K
+
+-- "A call's outcome is a success (an answer, "aside" or a confirmation), a refusal or a halt, each with its own data."
+pub data Told : Type 0 where
+  opened : Told
+  invoked : ℕ → Told
+  responded : ℕ → Response → Told
+  aborted : ℕ → Told
+  confirmed : ℕ → ℕ → Told
+  refused : ℕ → Told
+  halted : ℕ → Told
+
+-- "Numbers below 20 … are refusals"
+abbrev pub refusalNo : Refusal → ℕ
+refusalNo R.Number = 1
+refusalNo R.Keys = 2
+refusalNo R.HaltMark = 3
+refusalNo R.Current = 4
+refusalNo R.Forbidden = 5
+refusalNo R.CountFull = 6
+refusalNo R.Room = 7
+refusalNo R.Range = 8
+
+-- "20 to 25 are halts"
+abbrev pub haltNo : Halt → ℕ
+haltNo H.Form = 20
+haltNo H.Content = 21
+haltNo H.Tag = 22
+haltNo H.Chain = 23
+haltNo H.Last = 24
+haltNo H.Seq = 25
+
+-- "A made entry brings its own count"; "An answer and "aside" bring their place; a confirmation brings place and status."
+abbrev pub doneTold : Done → Told
+doneTold D.Opened = opened
+doneTold (D.Invoked n) = invoked n
+doneTold (D.Responded p a) = responded p a
+doneTold (D.Aborted p) = aborted p
+doneTold (D.Confirmed p s) = confirmed p s
+
+abbrev pub told : Outcome → Told
+told (O.Success d) = doneTold d
+told (O.Refused r) = refused (refusalNo r)
+told (O.Halted h) = halted (haltNo h)
+
+-- a check's number
+abbrev pub whyNo : Why → ℕ
+whyNo (W.Refuse r) = refusalNo r
+whyNo (W.Halt h) = haltNo h
+
+-- the first check with a no: its number, and 0 where each has a yes
+abbrev pub checkNo : Check → ℕ
+checkNo K.Pass = 0
+checkNo (K.No w) = whyNo w

@@ -1,0 +1,132 @@
+-- The client's state (document 01: the van's book): fresh, in range (check 8), refused, halted; and checks in order.
+use Prim.Native.Nat.{ℕ, zero, suc, _+_, _-_, _*_}
+use mathlib.Core.List.{List, [], _∷_, _++_}
+use mathlib.Core.Bool.{Bool, true, cond, _&&_, _||_}
+use lib.ListN.{length, take, drop, replicate}
+use lib.Dec.{leb, eqb}
+use Rattle.slices.specs.Bytes.{all, isZero}
+use Rattle.operation.specs.declared.Operation.{Operation}
+use Rattle.operation.specs.Operation.{opOk, noOp}
+use Rattle.replica.specs.declared.Replica.{Replica}
+use Rattle.replica.specs.declared.Stepped.{Stepped}
+use Rattle.replica.specs.Outcome.{Told, refused, halted, told}
+
+-- ---- the state
+-- "A fresh book has its number and the keys; the rest is zero, none or clear."
+abbrev pub freshReplica : ℕ → List ℕ → Replica
+freshReplica n keys =
+    record {
+      number = n;
+      keys = keys;
+      count = 0;
+      current = noOp;
+      confirmed = 0;
+      held = 0;
+      chain = replicate 1056 0;
+      statuses = replicate 32 0;
+      cells = replicate 16 0;
+      halt = 0;
+    }
+
+-- "an all-zero book"
+abbrev pub zeroReplica : Replica
+zeroReplica = freshReplica 0 (replicate 256 0)
+
+-- "Each van has a 32-byte key; every van holds all eight, van 1's first."
+unfoldable pub keyOf : List ℕ → ℕ → List ℕ
+keyOf keys n = take 32 (drop ((n - 1) * 32) keys)
+
+-- ---- "fields in range? 8"
+-- whether each of the tests is a yes, after those so far
+abbrev pub every : Bool → List Bool → Bool
+every so-far [] = so-far
+every so-far (b ∷ bs) = every (so-far && b) bs
+
+-- no current operation: "no entry in hand"
+abbrev pub noCurrent : Operation → Bool
+noCurrent e = every true (eqb (e .count) 0 ∷ eqb (e .kind) 0 ∷ eqb (e .cell) 0 ∷ eqb (e .amount) 0 ∷ eqb (e .last) 0 ∷ [])
+
+-- "Van number … 1 to 8; counts and c 0 to 1,000,000; 0 to 32 places held, none above 1,000,000; halt mark clear or a halt's number"
+unfoldable pub numbersOk : Replica → Bool
+numbersOk r =
+    every true
+    (leb 1 (r .number)
+    ∷ leb (r .number) 8
+    ∷ leb (r .count) 1000000
+    ∷ leb (r .confirmed) 1000000
+    ∷ leb (r .held) 32
+    ∷ leb (r .confirmed + r .held) 1000000
+    ∷ (eqb (r .halt) 0 || (leb 20 (r .halt) && leb (r .halt) 25))
+    ∷ [])
+
+-- "statuses 1, 0 or none" (stored as 1, 2 and 0); "unused slots zero": statuses past the places held, chain values past the last held
+unfoldable pub arraysOk : Replica → Bool
+arraysOk r =
+    every true
+    (all (λ x. leb x 2) (r .statuses)
+    ∷ all isZero (drop (r .held) (r .statuses))
+    ∷ all isZero (drop ((r .held + 1) * 32) (r .chain))
+    ∷ [])
+
+-- all of it, with "stored entries allowed"
+unfoldable pub inRange : Replica → Bool
+inRange r = every true (numbersOk r ∷ (noCurrent (r .current) || opOk (r .current)) ∷ arraysOk r ∷ [])
+
+-- ---- "The first no decides."
+-- one more check after those so far, each a test with its number: the number of the first no stays, and 0 says that there is none
+abbrev pub alsoNo : ℕ → Bool × ℕ → ℕ
+alsoNo zero q = cond (q .0) 0 (q .1)
+alsoNo (suc n) q = suc n
+
+-- the number of the first check answered no, after that so far
+abbrev pub firstNo : ℕ → List (Bool × ℕ) → ℕ
+firstNo n [] = n
+firstNo n (q ∷ qs) = firstNo (alsoNo n q) qs
+
+-- ---- a call's result: the replica after it, and what it tells
+pub record After : Type 0 where
+  pub replica : Replica
+  pub says : Told
+
+abbrev pub afterOf : Stepped → After
+afterOf s = record { replica = s .replica; says = told (s .outcome) }
+
+-- "refusals: book … unchanged, only the number comes back"
+abbrev pub refuse : Replica → ℕ → After
+refuse r n = record { replica = r; says = refused n }
+
+-- "halts: the halt mark becomes that number, the rest of the book … unchanged"
+abbrev pub haltedAt : Replica → ℕ → Replica
+haltedAt r n =
+    record {
+      number = r .number;
+      keys = r .keys;
+      count = r .count;
+      current = r .current;
+      confirmed = r .confirmed;
+      held = r .held;
+      chain = r .chain;
+      statuses = r .statuses;
+      cells = r .cells;
+      halt = n;
+    }
+
+abbrev pub halt : Replica → ℕ → After
+halt r n = record { replica = haltedAt r n; says = halted n }
+
+-- "Numbers below 20 and from 30 are refusals …. 20 to 25 are halts"
+abbrev pub stop : Replica → ℕ → After
+stop r n = cond (leb 20 n && leb n 25) (halt r n) (refuse r n)
+
+-- ---- a call's step: the replica after it and what it tells, and the bytes written to the front of the buffer
+pub record Step : Type 0 where
+  pub after : After
+  pub wrote : List ℕ
+
+-- the buffer after a call that wrote these bytes: no byte past them is changed
+abbrev pub over : List ℕ → List ℕ → List ℕ
+over bytes out = bytes ++ drop (length bytes) out
+
+-- a call that a check stopped: nothing is written
+abbrev pub stopStep : Replica → ℕ → Step
+stopStep r n = record { after = stop r n; wrote = [] }

@@ -1,0 +1,4 @@
+pub mod Rounds
+pub mod Padding
+pub mod Blocks
+pub mod Examples

@@ -1,0 +1,36 @@
+-- The evidence in messages: tags by the authors' keys, and the hash chain. Document 01, "Marks and messages".
+use Prim.Native.Nat.{ℕ, _*_}
+use mathlib.Core.List.{List}
+use mathlib.Core.Bool.{Bool}
+use lib.ListN.{take, drop}
+use Rattle.slices.specs.Bytes.{same}
+use Rattle.sha256.specs.Sha256.{sha256}
+use Rattle.hmac.specs.Hmac.{hmac}
+use Rattle.operation.specs.declared.Operation.{Operation}
+use Rattle.message.specs.declared.Item.{Item}
+use Rattle.message.specs.declared.Commit.{Commit}
+use Rattle.message.specs.Message.{invokeString, commitString, chainString}
+use Rattle.replica.specs.Replica.{keyOf}
+
+-- "The `IN` tag is made with the author's key over `IN`, entry, author"
+unfoldable pub invokeTag : List ℕ → Operation → ℕ → List ℕ
+invokeTag keys e author = hmac (keyOf keys author) (invokeString e author)
+
+-- "The `CO` tag is over `CO`, entry, author, place, digest, status"
+unfoldable pub commitTag : List ℕ → Operation → ℕ → ℕ → List ℕ → ℕ → List ℕ
+commitTag keys e author seq digest status = hmac (keyOf keys author) (commitString e author seq digest status)
+
+-- "Tag right?": of an item of a reply, and of a broadcast ("A `BR` carries the `CO` tag unchanged")
+unfoldable pub itemTagOk : List ℕ → Item → Bool
+itemTagOk keys i = same (i .tag) (invokeTag keys (i .op) (i .author))
+
+unfoldable pub commitTagOk : List ℕ → Commit → Bool
+commitTagOk keys k = same (k .tag) (commitTag keys (k .op) (k .author) (k .seq) (k .digest) (k .status))
+
+-- a replica's chain has 33 values of 32 bytes: value k is the one k sequence numbers past the last confirmed one
+unfoldable pub valueAt : ℕ → List ℕ → List ℕ
+valueAt k chain = take 32 (drop (k * 32) chain)
+
+-- "At place p it is the digest of 45 bytes: value at p − 1, entry, p, author."
+unfoldable pub linkValue : List ℕ → Operation → ℕ → ℕ → List ℕ
+linkValue value e seq author = sha256 (chainString value e seq author)
