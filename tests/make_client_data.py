@@ -1,0 +1,783 @@
+"""Writes crates/client_run/stdin, a list of calls on vans' books in the form that client_run.py describes, and
+crates/client_run/stdout, what cop.py has a program print for it."""
+
+import pathlib
+import sys
+from collections import deque
+
+import cop
+from client_run import FIELDS, NAMES, ROOM, book_of, call, image, line, poked
+from cop import ADD, ASIDE, DONE, READ, SET, TAKE, Entry
+from draws import Draws
+
+class Script:
+    """The records, and the lines that they give. Each call gives the outcome and the bytes written."""
+
+    def __init__(self):
+        self.records = []
+        self.lines = []
+        self.slots = [image(cop.NO_BOOK)] * 4
+        self.outcomes = set()
+
+    def book(self, slot):
+        return book_of(self.slots[slot])
+
+    def record(self, command, slot, to, a=0, b=0, c=0, room=0, body=b""):
+        assert len(body) <= 4096
+        head = command.encode() + bytes([slot, to, a, b, c]) + room.to_bytes(2, "big") + len(body).to_bytes(2, "big")
+        self.records.append(head + body)
+
+    def told(self, to, data, outcome, out=b""):
+        self.slots[to] = data
+        self.lines.append(line(outcome, data, out))
+        self.outcomes.add(outcome[0] if outcome[0] not in ("no", "halt") else outcome)
+
+    def note(self, text):
+        self.record("N", 0, 0, body=b"# " + text.encode())
+        self.lines.append("# " + text)
+
+    def open(self, to, van, keys):
+        self.record("O", 0, to, van, body=keys)
+        book, outcome = cop.open_book(van, keys)
+        self.told(to, image(book), outcome)
+        return outcome
+
+    def call(self, slot, to, room, step):
+        assert room <= ROOM
+        data, outcome, out = call(self.slots[slot], room, step)
+        self.told(to, data, outcome, out)
+        return outcome, out
+
+    def make(self, slot, kind, cell, amount, room=43, to=None):
+        to = slot if to is None else to
+        self.record("I", slot, to, kind, cell, amount, room)
+        return self.call(slot, to, room, lambda book, out: cop.make(book, kind, cell, amount, out))
+
+    def take(self, slot, message, room=80, to=None):
+        to = slot if to is None else to
+        self.record("R", slot, to, room=room, body=message)
+        return self.call(slot, to, room, lambda book, out: cop.take(book, message, out))
+
+    def poke(self, slot, name, value, index=0, to=None):
+        to = slot if to is None else to
+        _, width, elements = FIELDS[NAMES.index(name)]
+        assert index < elements and value < 256**width
+        self.record("P", slot, to, NAMES.index(name), room=index, body=cop.number(value))
+        self.told(to, poked(self.slots[slot], NAMES.index(name), index, value), ("poked",))
+
+    def copy(self, slot, to):
+        """A poke that changes nothing."""
+        self.poke(slot, "number", self.slots[slot][0], to=to)
+
+
+KEYS = bytes((7 * i + 3) % 256 for i in range(256))  # all 256 bytes, so that no two keys share one
+
+
+class World:
+    """Vans 1, 2 and 3 in slots 0, 1 and 2, with cop.py's relay between them."""
+
+    def __init__(self, script, keys=KEYS):
+        self.script = script
+        self.relay = cop.Relay()
+        self.to_van = {1: deque(), 2: deque(), 3: deque()}
+        self.sent = []  # every message that the relay wrote
+        for van in self.to_van:
+            script.open(van - 1, van, keys)
+
+    def put(self, van, message):
+        self.sent.append(message)
+        self.to_van[van].append(message)
+
+    def offer(self, van, message):
+        self.relay, outcome, out = cop.relay_take(self.relay, van, message, bytes(32 * 80))
+        if outcome[0] == "placed":
+            self.put(van, out[: 3 + 41 * out[2]])
+        for k in range(outcome[1] if outcome[0] == "passed" else 0):
+            for other in self.to_van:
+                self.put(other, out[80 * k : 80 * k + 80])
+        return outcome
+
+    def make(self, van, kind, cell, amount, room=43):
+        outcome, out = self.script.make(van - 1, kind, cell, amount, room)
+        if outcome[0] == "made":
+            assert self.offer(van, out[:43])[0] == "placed"
+        return outcome
+
+    def deliver(self, van, room=80):
+        outcome, out = self.script.take(van - 1, self.to_van[van][0], room)
+        if outcome[0] in ("answer", "aside", "confirm"):
+            self.to_van[van].popleft()
+        if outcome[0] in ("answer", "aside"):
+            assert self.offer(van, out[:80])[0] == "passed"
+        return outcome
+
+    def deliver_all(self):
+        while any(self.to_van.values()):
+            for van in self.to_van:
+                if self.to_van[van]:
+                    self.deliver(van)
+
+
+def item(entry, author, keys=KEYS):
+    return cop.Item(entry, author, cop.in_tag(keys, entry, author))
+
+
+def chain_from(book, items):
+    """Chain values from the one at c on, over items at c + 1 and on."""
+    chain = [book.chain[0]]
+    for k, it in enumerate(items, 1):
+        chain.append(cop.chain_value(chain[-1], it.entry, book.c + k, it.author))
+    return chain
+
+
+def br(entry, author, place, value, status=DONE, keys=KEYS):
+    return cop.br_message(cop.co_message(keys, entry, author, place, value, status))
+
+
+def changed(message, at, mask):
+    return message[:at] + bytes([message[at] ^ mask]) + message[at + 1 :]
+
+
+def opening(s):
+    s.note("Opening: van number, then key length")
+    for van in (0, 9, 255):
+        s.open(0, van, KEYS)
+    s.open(0, 0, KEYS[:255])
+    for length in (0, 1, 255):
+        s.open(0, 1, KEYS[:length])
+    s.open(0, 8, KEYS + b"\0")
+    s.note("A refused opening's book")
+    s.make(0, ADD, 0, 1)
+    s.take(0, b"RE\0")
+    s.note("Eight vans open")
+    for van in range(1, 9):
+        s.open(0, van, KEYS)
+
+
+def document_listing(s):
+    s.note("Document 01's trial, with its keys, van 3 looking on")
+    w = World(s, b"".join(bytes([van]) * 32 for van in range(1, 9)))
+    w.make(1, SET, 0, 7)
+    w.deliver(1)
+    w.deliver(1)
+    w.deliver(2)
+    w.make(2, ADD, 0, 3)
+    w.make(1, TAKE, 0, 5)
+    w.deliver(1)
+    w.make(1, TAKE, 0, 4)
+    assert w.deliver(1) == ("aside", 4)
+    w.deliver_all()
+
+
+def every_kind(s):
+    s.note("Every kind with each answer, alone")
+    w = World(s)
+    for kind, amount, answer in (
+        (ADD, 250, 1),
+        (ADD, 6, 0),
+        (READ, 0, 250),
+        (ADD, 5, 1),
+        (READ, 0, 255),
+        (TAKE, 248, 1),
+        (TAKE, 8, 0),
+        (TAKE, 7, 1),
+        (READ, 0, 0),
+        (SET, 255, 1),
+        (ADD, 0, 1),
+        (TAKE, 0, 1),
+        (ADD, 1, 0),
+        (SET, 0, 1),
+        (TAKE, 1, 0),
+    ):
+        w.make(3, kind, 15, amount)
+        outcome = w.deliver(3)
+        assert outcome[0] == "answer" and outcome[2] == answer, outcome
+        w.deliver(3)
+    w.deliver_all()
+
+
+def conflicts(s):
+    s.note("Document 01's conflict cases: van 2's entries wait, van 1 answers or not")
+    for value, others, own, word in (
+        (7, [(ADD, 0, 3)], [(TAKE, 0, 5)], "answer"),
+        (7, [(ADD, 0, 3)], [(TAKE, 0, 5), (TAKE, 0, 4)], "aside"),
+        (7, [(TAKE, 0, 2), (TAKE, 0, 1)], [(TAKE, 0, 5)], "aside"),
+        (7, [(ADD, 0, 3), (TAKE, 0, 4)], [(TAKE, 0, 5)], "aside"),
+        (7, [(SET, 0, 7)], [(READ, 0, 0)], "answer"),
+        (7, [(SET, 0, 9)], [(READ, 0, 0)], "aside"),
+        (7, [(SET, 1, 9), (ADD, 1, 1)], [(READ, 0, 0)], "answer"),
+        (7, [], [(TAKE, 0, 5), (TAKE, 0, 4)], "answer"),
+        (250, [(ADD, 0, 6), (TAKE, 0, 6)], [(READ, 0, 0)], "aside"),
+    ):
+        s.open(0, 1, KEYS)
+        s.poke(0, "cells", value)
+        items = [item(Entry(k, *other), 2) for k, other in enumerate(others, 1)]
+        for count, (kind, cell, amount) in enumerate(own, 1):
+            s.make(0, kind, cell, amount)
+            items.append(item(Entry(count, kind, cell, amount), 1))
+            outcome, _ = s.take(0, cop.re_message(items))
+        assert outcome[0] == word, (others, own)
+
+
+def refusals_of_making(s):
+    s.note("Making: room 42 and 0, then 43; the rest of the buffer stays")
+    s.open(0, 4, KEYS)
+    s.make(0, ADD, 3, 9, room=42)
+    s.make(0, ADD, 3, 9, room=0)
+    s.make(0, ADD, 3, 9, room=43, to=1)
+    s.make(0, ADD, 3, 9, room=128, to=1)
+    s.note("An entry in hand, asked before kind, cell, amount and room")
+    s.make(1, ADD, 3, 9)
+    s.make(1, 9, 99, 9, room=0)
+    s.note("Kind, cell, amount")
+    for kind, cell, amount in (
+        (0, 0, 0),
+        (5, 0, 0),
+        (255, 0, 0),
+        (ADD, 16, 1),
+        (TAKE, 16, 1),
+        (READ, 16, 0),
+        (SET, 16, 0),
+        (SET, 255, 0),
+        (READ, 0, 1),
+        (READ, 15, 255),
+    ):
+        s.make(0, kind, cell, amount)
+    s.make(0, 0, 0, 0, room=0)
+    for kind, cell, amount in ((ADD, 0, 0), (ADD, 15, 255), (TAKE, 15, 255), (READ, 15, 0), (SET, 15, 255)):
+        s.make(0, kind, cell, amount, to=1)
+    s.note("Own count at its limit: 5 before 6 before 7")
+    s.poke(0, "count", cop.LIMIT, to=1)
+    s.make(1, 0, 0, 0)
+    s.make(1, ADD, 0, 1)
+    s.make(1, ADD, 0, 1, room=0)
+    s.note("The last own count, made and answered")
+    s.poke(0, "count", cop.LIMIT - 1, to=1)
+    s.make(1, ADD, 0, 1)
+    s.take(1, cop.re_message([item(Entry(cop.LIMIT, ADD, 0, 1), 4)]))
+    s.make(1, ADD, 0, 1)
+
+
+def four_waiting(s):
+    """Van 1 (slot 0) has c = 1, two places held, the second of them its own and done, and an entry in hand;
+    van 3 (slot 2) has c = 1 and no place held. Gives the items at places 2 to 5: of vans 2, 1, 3, and the one
+    in van 1's hand."""
+    w = World(s)
+    w.make(1, SET, 0, 9)
+    w.deliver(1)
+    w.deliver(1)
+    w.deliver(3)
+    w.make(2, ADD, 5, 3)
+    w.make(1, TAKE, 0, 2)
+    w.deliver(1)
+    w.make(3, ADD, 0, 3)
+    w.make(1, TAKE, 0, 4)
+    message = w.to_van[1][0]
+    assert s.book(0).c == s.book(2).c == 1 and s.book(0).held() == 2 and s.book(2).held() == 0
+    return [cop.item_of(message[3 + 41 * k : 44 + 41 * k]) for k in range(message[2])]
+
+
+def damaged_reply(s):
+    s.note("A RE of four items, two of them held: taken as it is")
+    items = four_waiting(s)
+    good = cop.re_message(items)
+    book = s.book(0)
+    assert s.take(0, good, to=3)[0] == ("answer", 5, 1)
+    s.take(0, good, room=79, to=3)
+    s.take(0, good, room=0, to=3)
+    s.take(0, good, room=128, to=3)
+    for mask in (1, 0x80):
+        s.note("Each of its bytes changed in turn, by exclusive-or with %d" % mask)
+        for at in range(len(good)):
+            outcome, _ = s.take(0, changed(good, at, mask), to=3)
+            assert outcome[0] == "halt"
+    s.note("A halted van, asked before all but its fields")
+    s.take(3, good)
+    s.take(3, b"")
+    s.make(3, 0, 0, 0)
+
+    s.note("Lengths: one short, one long, none, one item less than said, one more")
+    for message in (
+        good[:-1],
+        good + b"\0",
+        b"",
+        b"R",
+        b"RE",
+        b"RE\0",
+        b"RE\0\0",
+        b"RE\1",
+        good[:-41],
+        good + items[0].bytes(),
+        b"RE\xff" + good[3:],
+        b"RE\x21" + items[0].bytes() * 33,
+        b"RE\x20" + items[0].bytes() * 33,
+        b"RE\x21" + items[0].bytes() * 32,
+        b"re" + good[2:],
+        b"ER" + good[2:],
+        b"IN" + good[2:43],
+        b"CO" + bytes(78),
+        bytes(2048),
+    ):
+        s.take(0, message, to=3)
+        s.take(0, message, room=0, to=3)
+
+    s.note("Items left out, repeated, in another order")
+    a, b, c, d = items
+    for listed in (
+        [d],
+        [a],
+        [a, b],
+        [a, b, c],
+        [b, c, d],
+        [a, c, d],
+        [a, b, d],
+        [b, a, c, d],
+        [a, c, b, d],
+        [a, b, d, c],
+        [d, c, b, a],
+        [a, b, c, d, c],
+        [a, b, c, c, d],
+        [a, b, c, d, d],
+        [a, a, b, c, d],
+    ):
+        s.take(0, cop.re_message(listed), to=3)
+
+    s.note("Items with right tags in place of the listed ones")
+    for listed in (
+        [item(a.entry, 3), b, c, d],
+        [a, item(b.entry, 2), c, d],
+        [a, b, item(c.entry, 2), d],
+        [a, b, item(c.entry, 8), d],
+        [a, b, item(c.entry, 1), d],
+        [a, b, c, item(d.entry, 2)],
+        [a, b, c, item(d.entry._replace(count=4), 1)],
+        [a, b, c, item(d.entry._replace(amount=5), 1)],
+        [a, b, c, item(d.entry._replace(cell=1), 1)],
+        [a, b, c, item(d.entry._replace(kind=ADD), 1)],
+        [a, b, item(Entry(cop.LIMIT, SET, 15, 255), 8), d],
+    ):
+        s.take(0, cop.re_message(listed), to=3)
+
+    s.note("Tags by another van's key, or over another entry")
+    for listed in (
+        [a._replace(tag=cop.tag(cop.key_of(KEYS, 1), cop.in_string(a.entry, a.author))), b, c, d],
+        [a, b, c, d._replace(tag=cop.tag(cop.key_of(KEYS, 2), cop.in_string(d.entry, 1)))],
+        [a, b._replace(tag=d.tag), c, d],
+        [a, b, c._replace(tag=cop.tag(cop.key_of(KEYS, 3), b"CO" + cop.in_string(c.entry, 3)[2:])), d],
+    ):
+        s.take(0, cop.re_message(listed), to=3)
+
+    s.note("Entries not allowed, with right tags")
+    for entry in (
+        Entry(0, ADD, 0, 1),
+        Entry(cop.LIMIT + 1, ADD, 0, 1),
+        Entry(2**32 - 1, ADD, 0, 1),
+        Entry(1, 0, 0, 1),
+        Entry(1, 5, 0, 1),
+        Entry(1, ADD, 16, 1),
+        Entry(1, READ, 0, 1),
+        Entry(1, ADD, 0, 1, 1),
+    ):
+        s.take(0, cop.re_message([a, b, item(entry, 3), d]), to=3)
+    for author in (0, 9, 255):
+        s.take(0, cop.re_message([a, b, c._replace(author=author), d]), to=3)
+
+    s.note("Two faults: the earlier item's first, and in each item 21, 22, 23; room before all of these")
+    bad_entry = item(Entry(1, 5, 0, 1), 3)
+    bad_tag = item(c.entry, 3)._replace(tag=bytes(32))
+    bad_chain = item(Entry(9, ADD, 0, 3), 3)
+    for listed in (
+        [bad_tag, bad_entry, c, d],
+        [bad_chain, bad_tag, c, d],
+        [bad_chain, bad_entry, c, d],
+        [bad_entry, bad_chain, c, d],
+        [bad_chain._replace(tag=bytes(32)), b, c, d],
+        [bad_entry._replace(tag=bytes(32)), b, c, d],
+        [a, bad_chain, c, bad_tag],
+        [a, b, bad_tag, bad_entry],
+        [a, b, c, bad_entry],
+        [a, b, c, bad_tag],
+        [a, b, c, bad_chain],
+    ):
+        s.take(0, cop.re_message(listed), to=3)
+        s.take(0, cop.re_message(listed), room=79, to=3)
+
+    s.note("Another book: chain values, keys, statuses, cells, the entry in hand")
+    for name, value, index in (
+        ("chain", book.chain[0][0] ^ 1, 0),
+        ("chain", book.chain[1][31] ^ 1, 63),
+        ("chain", book.chain[2][31] ^ 128, 95),
+        ("keys", KEYS[0] ^ 1, 0),
+        ("keys", KEYS[63] ^ 1, 63),
+        ("keys", KEYS[64] ^ 1, 64),
+        ("keys", KEYS[96] ^ 1, 96),
+        ("keys", KEYS[255] ^ 1, 255),
+        ("number", 2, 0),
+        ("number", 8, 0),
+        ("statuses", 1, 0),
+        ("statuses", 2, 0),
+        ("statuses", 2, 1),
+        ("statuses", 0, 1),
+        ("cells", 8, 0),
+        ("cells", 5, 0),
+        ("cells", 0, 0),
+        ("cells", 255, 0),
+        ("cells", 255, 5),
+        ("count", 77, 0),
+        ("c", 2, 0),
+        ("c", 0, 0),
+        ("held", 1, 0),
+        ("hand.count", 4, 0),
+        ("hand.kind", ADD, 0),
+        ("hand.cell", 1, 0),
+        ("hand.amount", 5, 0),
+    ):
+        s.poke(0, name, value, index, to=3)
+        s.take(3, good)
+    s.note("No entry in hand")
+    s.take(0, good, to=3)
+    s.take(3, good)
+
+
+def ranges(s):
+    s.note("Fields out of range, and at the edge: making and taking")
+    four_waiting(s)
+    for name, value, index in (
+        ("number", 0, 0),
+        ("number", 9, 0),
+        ("number", 255, 0),
+        ("count", cop.LIMIT, 0),
+        ("count", cop.LIMIT + 1, 0),
+        ("count", 2**32 - 1, 0),
+        ("count", 0, 0),
+        ("c", cop.LIMIT - 2, 0),
+        ("c", cop.LIMIT - 1, 0),
+        ("c", cop.LIMIT, 0),
+        ("c", cop.LIMIT + 1, 0),
+        ("c", 2**32 - 1, 0),
+        ("held", 3, 0),
+        ("held", 32, 0),
+        ("held", 33, 0),
+        ("held", 2**32 - 1, 0),
+        ("held", 1, 0),
+        ("held", 0, 0),
+        ("hand.count", 0, 0),
+        ("hand.count", cop.LIMIT, 0),
+        ("hand.count", cop.LIMIT + 1, 0),
+        ("hand.kind", 0, 0),
+        ("hand.kind", 5, 0),
+        ("hand.kind", READ, 0),
+        ("hand.cell", 15, 0),
+        ("hand.cell", 16, 0),
+        ("hand.amount", 255, 0),
+        ("hand.last", 1, 0),
+        ("statuses", 0, 0),
+        ("statuses", 1, 0),
+        ("statuses", 2, 0),
+        ("statuses", 3, 0),
+        ("statuses", 255, 1),
+        ("statuses", 1, 2),
+        ("statuses", 2, 31),
+        ("chain", 1, 95),
+        ("chain", 1, 96),
+        ("chain", 128, 1055),
+        ("cells", 255, 15),
+        ("halt", 1, 0),
+        ("halt", 19, 0),
+        ("halt", 20, 0),
+        ("halt", 21, 0),
+        ("halt", 22, 0),
+        ("halt", 23, 0),
+        ("halt", 24, 0),
+        ("halt", 25, 0),
+        ("halt", 26, 0),
+        ("halt", 255, 0),
+    ):
+        s.poke(0, name, value, index, to=3)
+        s.make(3, ADD, 0, 1, to=2)
+        s.take(3, b"RE\0", to=2)
+    s.note("Without an entry in hand: a part of one, places past the limit, a halt mark and a field")
+    s.open(0, 1, KEYS)
+    for name in ("hand.count", "hand.kind", "hand.cell", "hand.amount", "hand.last"):
+        s.poke(0, name, 1, to=3)
+        s.make(3, ADD, 0, 1, to=2)
+        s.take(3, b"", to=2)
+    s.poke(0, "c", cop.LIMIT, to=3)
+    s.make(3, ADD, 0, 1, to=2)
+    s.poke(3, "held", 1)
+    s.make(3, ADD, 0, 1, to=2)
+    s.poke(3, "c", cop.LIMIT - 1)
+    s.make(3, ADD, 0, 1, to=2)
+    s.poke(3, "held", 32)
+    s.make(3, ADD, 0, 1, to=2)
+    s.poke(3, "c", cop.LIMIT - 32)
+    s.make(3, ADD, 0, 1, to=2)
+    s.poke(3, "held", 33)
+    s.make(3, ADD, 0, 1, to=2)
+    s.poke(0, "halt", 25, to=3)
+    s.make(3, 0, 0, 0, room=0)
+    s.take(3, b"")
+    s.poke(3, "number", 0)
+    s.make(3, 0, 0, 0, room=0)
+    s.take(3, b"")
+
+
+def damaged_broadcast(s):
+    for held in (True, False):
+        s.note("A BR whose place is held, taken" if held else "A BR whose place is not held, taken")
+        items = four_waiting(s)
+        slot = 0 if held else 2
+        book = s.book(slot)
+        a, b = items[:2]
+        value = chain_from(book, items)[1]
+        good = br(a.entry, 2, 2, value)
+        for room in (0, 80, 128):
+            assert s.take(slot, good, room, to=3)[0] == ("confirm", 2, 1)
+        s.take(slot, br(a.entry, 2, 2, value, ASIDE), to=3)
+        for mask in (1, 0x80):
+            s.note("Each of its bytes changed in turn, by exclusive-or with %d" % mask)
+            for at in range(80):
+                outcome, _ = s.take(slot, changed(good, at, mask), to=3)
+                assert outcome[0] == "halt"
+        s.note("Lengths and marks")
+        for message in (good[:-1], good + b"\0", b"BR", b"B", b"CO" + good[2:], b"RE" + good[2:], good[:44]):
+            s.take(slot, message, to=3)
+        s.note("Places")
+        for place in (0, 1, 3, 4, 258, 2**24 + 2, cop.LIMIT, cop.LIMIT + 1):
+            s.take(slot, br(a.entry, 2, place, value), to=3)
+        s.note("Right tags over another digest, entry, author or status")
+        for message in (
+            br(a.entry, 2, 2, bytes(32)),
+            br(a.entry, 2, 2, book.chain[0]),
+            br(a.entry, 2, 2, changed(value, 31, 1)),
+            br(a.entry, 2, 2, changed(value, 0, 128)),
+            br(b.entry, 1, 2, value),
+            br(a.entry, 3, 2, value),
+            br(a.entry, 8, 2, value),
+            br(Entry(cop.LIMIT, SET, 15, 255), 2, 2, value),
+            br(Entry(cop.LIMIT, SET, 15, 255), 2, 2, value, ASIDE),
+            br(a.entry, 2, 2, value, 2),
+            br(a.entry, 2, 2, value, 255),
+            br(Entry(0, ADD, 0, 1), 2, 2, value),
+            br(Entry(cop.LIMIT + 1, ADD, 0, 1), 2, 2, value),
+            br(Entry(1, 5, 0, 1), 2, 2, value),
+            br(Entry(1, ADD, 16, 1), 2, 2, value),
+            br(Entry(1, READ, 0, 1), 2, 2, value),
+            br(Entry(1, ADD, 0, 1, 1), 2, 2, value),
+        ):
+            s.take(slot, message, to=3)
+        s.note("Right digests for another entry or author at that place")
+        for entry, author in ((b.entry, 1), (a.entry, 3), (Entry(7, READ, 5, 0), 8), (Entry(7, TAKE, 0, 10), 7)):
+            for status in (DONE, ASIDE):
+                other = cop.chain_value(book.chain[0], entry, 2, author)
+                s.take(slot, br(entry, author, 2, other, status), to=3)
+        s.note("Two faults: 21, 25, 22, 23 in that order")
+        wrong_tag = bytes(32)
+        for message in (
+            br(a.entry, 2, 9, value, 2),
+            br(a.entry, 2, 2, value, 2)[:48] + wrong_tag,
+            br(a.entry, 2, 9, value)[:48] + wrong_tag,
+            br(a.entry, 2, 9, bytes(32)),
+            br(a.entry, 2, 2, bytes(32))[:48] + wrong_tag,
+            changed(br(a.entry, 2, 9, value), 10, 0x80),
+        ):
+            s.take(slot, message, to=3)
+        s.note("Tags by another van's key, by an IN's string, with a changed key")
+        string = cop.co_string(a.entry, 2, 2, value, DONE)
+        for tag in (
+            cop.tag(cop.key_of(KEYS, 1), string),
+            cop.tag(cop.key_of(KEYS, 3), string),
+            cop.tag(KEYS, string),
+            cop.tag(cop.key_of(KEYS, 2), b"BR" + string[2:]),
+            cop.in_tag(KEYS, a.entry, 2),
+        ):
+            s.take(slot, b"BR" + string[2:] + tag, to=3)
+        for at in (31, 32, 63, 64):
+            s.poke(slot, "keys", KEYS[at] ^ 4, at, to=3)
+            s.take(3, good)
+        s.note("The same BR again, and the next")
+        s.take(slot, good, to=3)
+        s.take(3, good, to=1)
+        s.take(3, br(b.entry, 1, 3, chain_from(book, items)[2]), to=3)
+
+
+def own_statuses(s):
+    s.note("Own entries: done ones count, those aside or without a status are passed over")
+    s.open(0, 1, KEYS)
+    first = Entry(1, SET, 0, 5)
+    s.make(0, SET, 0, 5)
+    s.take(0, cop.re_message([item(first, 1)]))
+    s.make(0, ADD, 0, 3)
+    second = Entry(2, ADD, 0, 3)
+    s.note("Its first entry listed again at place 2, then the second")
+    s.take(0, cop.re_message([item(first, 1), item(first, 1), item(second, 1)]))
+    s.make(0, READ, 0, 0)
+    third = Entry(3, READ, 0, 0)
+    listed = [item(first, 1), item(first, 1), item(second, 1), item(third, 1)]
+    s.take(0, cop.re_message(listed), to=3)
+    s.note("The same with statuses set by hand")
+    for statuses in ((1, 1, 1), (1, 2, 1), (2, 0, 1), (1, 0, 2), (0, 0, 0), (2, 2, 2)):
+        s.copy(0, 3)
+        for k, status in enumerate(statuses):
+            s.poke(3, "statuses", status, k)
+        s.take(3, cop.re_message(listed))
+    s.note("A done status at another's place, by hand: that entry is no own one")
+    s.open(2, 1, KEYS)
+    s.poke(2, "cells", 7)
+    s.make(2, ADD, 1, 1)
+    strange = [item(Entry(1, TAKE, 0, 4), 2), item(Entry(1, ADD, 1, 1), 1), item(Entry(2, TAKE, 0, 2), 1)]
+    s.take(2, cop.re_message(strange[:2]))
+    s.poke(2, "statuses", 1, 0)
+    s.make(2, TAKE, 0, 2)
+    assert s.take(2, cop.re_message(strange))[0] == ("answer", 3, 1)
+    s.note("Fewer places than held: an earlier entry in hand again, by hand")
+    s.take(0, cop.re_message(listed), to=2)
+    for name, value in (("hand.count", 1), ("hand.kind", SET), ("hand.cell", 0), ("hand.amount", 5)):
+        s.poke(2, name, value)
+    s.take(2, cop.re_message(listed[:1]), to=3)
+    s.take(2, cop.re_message(listed[:2]), to=3)
+    s.take(2, cop.re_message(listed[:3]), to=3)
+    s.poke(2, "statuses", 1, 1)
+    s.take(2, cop.re_message(listed[:2]), to=3)
+    s.poke(2, "cells", 200)
+    s.take(2, cop.re_message(listed[:2]), to=3)
+
+
+def limits(s):
+    s.note("Places at the limit")
+    s.open(0, 5, KEYS)
+    s.make(0, ADD, 0, 1)
+    own, other = item(Entry(1, ADD, 0, 1), 5), item(Entry(1, ADD, 1, 1), 6)
+    for c in (cop.LIMIT - 2, cop.LIMIT - 1, cop.LIMIT):
+        s.poke(0, "c", c, to=1)
+        s.take(1, cop.re_message([own]), to=3)
+        s.take(1, cop.re_message([other, own]), to=3)
+        s.take(1, cop.re_message([other, other, own]), to=3)
+        s.take(1, cop.re_message([other._replace(tag=bytes(32)), own]), to=3)
+        s.take(1, b"RE\0", to=3)
+        for place in (c - 1, c, c + 1, c + 2):
+            s.take(1, br(other.entry, 6, place, cop.chain_value(bytes(32), other.entry, place, 6)), to=3)
+    s.note("The last place confirmed, and a van there")
+    s.poke(0, "c", cop.LIMIT - 1, to=1)
+    _, commit = s.take(1, cop.re_message([own]))
+    s.take(1, cop.br_message(commit))
+    s.make(1, ADD, 0, 1)
+    s.take(1, cop.re_message([item(Entry(2, ADD, 0, 1), 5)]))
+
+
+def thirty_two(s):
+    s.note("32 places waiting: van 2 is slow, vans 1 and 3 go on")
+    w = World(s)
+    w.make(2, ADD, 1, 1)
+    draws = Draws("thirty-two")
+    for k in range(31):
+        van = (1, 3)[k % 2]
+        w.make(van, *draws.entry(1, (0, 1, 2, 3), (0, 1, 2, 5))[1:4])
+        if k < 30:
+            w.deliver(van)
+    last = w.to_van[1][0]
+    assert last[2] == 32
+    s.note("RE of 32 items: refused without room, halted when one item is wrong, taken")
+    s.take(0, last, room=79, to=3)
+    for k in (0, 1, 15, 30, 31):
+        s.take(0, changed(last, 3 + 41 * k + 40, 1), to=3)
+    s.take(0, last + last[-41:], to=3)
+    s.take(0, b"RE\x21" + last[3:] + last[-41:], to=3)
+    w.deliver(1)
+    assert s.book(0).held() == 32
+    assert w.relay.t - w.relay.b == 32
+    s.note("The relay has no place, van 1 waits with its entry")
+    s.make(0, ADD, 0, 1)
+    waits = cop.in_message(KEYS, s.book(0).hand, 1)
+    assert cop.relay_take(w.relay, 1, waits, bytes(2000))[1] == ("no", 33)
+    s.note("Van 2 takes its RE; all 32 places are passed on and confirmed by all")
+    w.deliver(2)
+    assert len(w.to_van[1]) == 32
+    w.deliver_all()
+    assert w.offer(1, waits) == ("placed", 33)
+    w.deliver_all()
+    assert s.book(0).cells == s.book(1).cells == s.book(2).cells
+
+
+def drawn_lists(s):
+    draws = Draws("lists")
+    for world in range(12):
+        s.note("Drawn lists %d: others' entries and own ones on few cells" % world)
+        van = 1 + draws.below(8)
+        s.open(0, van, KEYS)
+        cells = range(1 + draws.below(4))
+        for cell in cells:
+            s.poke(0, "cells", draws.one_of((0, 1, 2, 7, 100, 250, 254, 255)), cell)
+        amounts = draws.one_of(((0, 1, 2), (0, 1, 3, 100), (1, 2, 5, 250, 255), (0, 7)))
+        kinds = draws.one_of(((ADD, TAKE), (ADD, TAKE, READ, SET), (ADD, ADD, TAKE, READ), (SET, TAKE)))
+        items = []
+        counts = [0] * 9
+
+        def drawn(author):
+            counts[author] += 1
+            kind = draws.one_of(kinds)
+            return Entry(counts[author], kind, draws.one_of(cells), 0 if kind == READ else draws.one_of(amounts))
+
+        rare = 1 + draws.below(3)
+        for k in range(10 + draws.below(23)):
+            if draws.below(4) < rare:
+                entry = drawn(van)
+                s.make(0, *entry[1:4])
+                items.append(item(entry, van))
+                s.take(0, cop.re_message(items))
+            else:
+                author = 1 + (van + draws.below(7)) % 8
+                items.append(item(drawn(author), author))
+
+
+def drawn_run(s):
+    draws = Draws("run")
+    for world in range(3):
+        s.note("Drawn run %d of three vans; strayed messages are taken by a copy" % world)
+        w = World(s)
+        for step in range(150):
+            van = 1 + draws.below(3)
+            if draws.below(4) == 0 and w.sent:
+                s.take(van - 1, draws.one_of(w.sent), to=3)
+            if draws.below(2):
+                entry = draws.entry(1, range(1 + world), (0, 1, 2, 3, 100))
+                if w.relay.t - w.relay.b < 32:
+                    w.make(van, *entry[1:4])
+            elif w.to_van[van]:
+                w.deliver(van, draws.one_of((0, 79, 80, 80, 80, 100)))
+        w.deliver_all()
+
+
+SECTIONS = (
+    opening,
+    document_listing,
+    every_kind,
+    conflicts,
+    refusals_of_making,
+    damaged_reply,
+    ranges,
+    damaged_broadcast,
+    own_statuses,
+    limits,
+    thirty_two,
+    drawn_lists,
+    drawn_run,
+)
+
+
+def main():
+    script = Script()
+    for section in SECTIONS:
+        section(script)
+    wanted = {"opened", "made", "answer", "aside", "confirm", "poked"}
+    wanted |= {("no", n) for n in range(1, 9)} | {("halt", n) for n in range(20, 26)}
+    assert script.outcomes == wanted, script.outcomes ^ wanted
+    here = pathlib.Path(sys.argv[1] if len(sys.argv) > 1 else pathlib.Path(__file__).parents[1] / "crates/client_run")
+    here.mkdir(parents=True, exist_ok=True)
+    (here / "stdin").write_bytes(b"".join(script.records))
+    (here / "stdout").write_text("\n".join(script.lines) + "\n")
+    print("%d records, %d bytes of input" % (len(script.records), sum(map(len, script.records))))
+
+
+if __name__ == "__main__":
+    main()

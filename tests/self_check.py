@@ -1,0 +1,192 @@
+"""Checks cop.py and trial.py: document 01's cases, its trial listing, the two conflict tests against each
+other, and what the document says of whole runs, on drawn schedules. `python3 tests/self_check.py`."""
+
+import cop
+from cop import ADD, READ, SET, TAKE, Entry
+from draws import Draws
+from trial import KEYS, VANS, Trial, run
+
+
+def cells_with(value, cell=0):
+    return (0,) * cell + (value,) + (0,) * (15 - cell)
+
+
+def entries(*pairs, cell=0):
+    return [Entry(1, kind, cell, amount) for kind, amount in pairs]
+
+
+def table_cases():
+    for value, kind, amount, answer, after in (
+        (250, ADD, 5, 1, 255),
+        (250, ADD, 6, 0, 250),
+        (7, TAKE, 7, 1, 0),
+        (7, TAKE, 8, 0, 7),
+        (7, READ, 0, 7, 7),
+        (7, SET, 9, 1, 9),
+    ):
+        for cell in range(16):
+            assert cop.run(Entry(1, kind, cell, amount), cells_with(value, cell)) == (answer, cells_with(after, cell))
+
+
+def conflict_cases():
+    for value, others, own, expected in (
+        (7, entries((ADD, 3)), entries((TAKE, 5)), False),
+        (7, entries((ADD, 3)), entries((TAKE, 5), (TAKE, 4)), True),
+        (7, entries((TAKE, 2), (TAKE, 1)), entries((TAKE, 5)), True),
+        (7, entries((TAKE, 2)), entries((TAKE, 5)), False),
+        (7, entries((TAKE, 1)), entries((TAKE, 5)), False),
+        (7, entries((ADD, 3), (TAKE, 4)), entries((TAKE, 5)), True),
+        (7, entries((SET, 7)), entries((READ, 0)), False),
+        (7, entries((SET, 9)), entries((READ, 0)), True),
+        (7, entries((SET, 9), cell=1), entries((READ, 0)), False),
+        (7, [], entries((TAKE, 5), (TAKE, 4), (READ, 0)), False),
+        (250, entries((ADD, 6), (TAKE, 6)), entries((READ, 0)), True),
+    ):
+        for test in (cop.conflict_by_definition, cop.conflict):
+            assert test(others, own, cells_with(value)) == expected, (value, others, own)
+
+
+def conflict_agrees():
+    draws = Draws("conflict")
+    yes = 0
+    for case in range(1500):
+        cells = tuple(draws.one_of((0, 1, 3, 5, 250, 255)) for _ in range(16))
+        used = range(1 + draws.below(3))
+        others = [draws.entry(1, used, (0, 1, 2, 3, 5, 250, 255)) for _ in range(draws.below(6))]
+        own = [draws.entry(1, used, (0, 1, 2, 3, 5, 250, 255)) for _ in range(1 + draws.below(4))]
+        expected = cop.conflict_by_definition(others, own, cells)
+        assert cop.conflict(others, own, cells) == expected, (others, own, cells)
+        yes += expected
+    assert 300 < yes < 1200, yes
+
+
+LISTING = """\
+1 1 placed 1
+2 1 answer 1 1
+3 1 confirm 1 1
+4 2 confirm 1 1
+5 2 placed 2
+6 1 placed 3
+7 1 answer 3 1
+8 1 placed 4
+9 1 aside 4"""
+
+
+def trial_listing():
+    lines = ["I 1 4 0 7", "D 1", "D 1", "D 2", "I 2 1 0 3", "I 1 2 0 5", "D 1", "I 1 2 0 4", "D 1"]
+    assert "\n".join(run(lines)) == LISTING
+
+
+def trial_words():
+    assert run(["I 1 5 0 0", "I 9 1 0 0", "D 1", "D 0", "I 1 1 0 256", "X", "", "I 1 1 0  0", "D 1 "]) == [
+        "1 1 no 5",
+        "2 0 bad",
+        "3 1 empty",
+        "4 0 bad",
+        "5 0 bad",
+        "6 0 bad",
+        "7 0 bad",
+        "8 0 bad",
+        "9 0 bad",
+    ]
+    # Van 2's `RE` is not delivered, so places fill up: the 33rd `IN` is refused and offered again.
+    lines = ["I 2 1 0 0"] + ["I 1 1 1 0", "D 1"] * 31 + ["I 1 1 1 0", "I 1 1 1 0", "D 2", "D 1", "D 2"]
+    printed = run(lines)
+    assert printed[62].split() == ["63", "1", "answer", "32", "1"]
+    assert printed[63:] == ["64 1 no 33", "65 1 no 4", "66 2 answer 1 1", "67 1 confirm 1 1", "68 2 confirm 1 1"]
+    # Vans 2 to 8 take nothing: after 256 places passed on, an `I` gives `full` until each took one.
+    lines = ["I 1 1 0 0", "D 1", "D 1"] * 256 + ["I 1 1 0 0"] + ["D %d" % van for van in range(2, 9)] + ["I 1 1 0 0"]
+    printed = run(lines)
+    assert printed[768:770] == ["769 1 full", "770 2 confirm 1 1"] and printed[-1] == "777 1 placed 257"
+
+
+def relay_numbers():
+    """Each of the relay's refusals once, and that out bytes and state stay."""
+    book, _ = cop.open_book(1, KEYS)
+    book, _, made = cop.make(book, ADD, 0, 1, bytes(43))
+    fresh = cop.Relay()
+    out = b"\xaa" * 200
+
+    def refused(relay, line, message, out, n):
+        assert cop.relay_take(relay, line, message, out) == (relay, ("no", n), out), n
+
+    refused(cop.Relay(b=1), 1, made, out, 8)
+    for bad in (b"", b"IN", made[:-1], made + b"\0", b"RE\0", made[:5] + b"\0" + made[6:]):
+        refused(fresh, 1, bad, out, 30)
+    refused(fresh, 2, made, out, 31)
+    refused(cop.Relay(last=(1,) + (0,) * 7), 1, made, out, 32)
+    refused(fresh, 1, made, out[:43], 7)
+    filler = cop.Item(Entry(1, ADD, 0, 0), 2, bytes(32))
+    refused(cop.Relay(t=32, items=(filler,) * 32, commits=(None,) * 32), 1, made, out, 33)
+    refused(cop.Relay(t=cop.LIMIT, b=cop.LIMIT), 1, made, out, 34)
+    relay, outcome, after = cop.relay_take(fresh, 1, made, out)
+    assert outcome == ("placed", 1) and after == b"RE\1" + made[2:] + out[44:]
+    book, outcome, commit = cop.take(book, after[:44], bytes(80))
+    assert outcome == ("answer", 1, 1)
+    refused(relay, 1, commit[:14] + b"\2" + commit[15:], out, 35)
+    refused(relay, 1, commit[:14] + b"\0" + commit[15:], out, 35)
+    refused(relay, 1, commit[:8] + b"\7" + commit[9:], out, 35)
+    refused(relay, 1, commit[:47] + b"\2" + commit[48:], out, 30)
+    refused(relay, 3, commit, out, 31)
+    refused(relay, 1, commit, out[:79], 7)
+    two = cop.Relay(t=2, items=(filler,) + relay.items, commits=(None, commit), last=(1, 1) + (0,) * 6)
+    again = cop.co_message(KEYS, Entry(1, ADD, 0, 1), 1, 2, bytes(32), 1)
+    refused(two, 1, again, out, 36)
+    relay, outcome, after = cop.relay_take(relay, 1, commit, out)
+    assert outcome == ("passed", 1) and after == b"BR" + commit[2:] + out[80:] and relay.b == 1 and not relay.items
+
+
+def whole_runs():
+    """With this relay no van halts, vans confirm one history, and each author got what it says."""
+    for seed in range(6):
+        draws = Draws("run %d" % seed)
+        trial = Trial()
+        confirmed = {van: [] for van in VANS}
+        got = {}
+        words = set()
+        for step in range(1200):
+            van = 1 + draws.below(3 if seed < 3 else 8)
+            if draws.below(2):
+                trial.offer_again()
+                if not trial.full():
+                    e = draws.entry(1, range(2 + seed), (0, 1, 2, 3, 5, 200))
+                    words.add(trial.make(van, e.kind, e.cell, e.amount)[0])
+                continue
+            head = trial.to_van[van][0] if trial.to_van[van] else b""
+            outcome = trial.deliver(van)
+            words.add(outcome[0])
+            assert outcome[0] in ("empty", "answer", "aside", "confirm"), outcome
+            if outcome[0] == "confirm":
+                m = cop.commit_of(head)
+                confirmed[van].append((m.entry, m.author, m.place, m.status, trial.books[van].cells))
+            elif outcome[0] != "empty":
+                item = cop.item_of(head[-41:])
+                assert (item.entry, item.author) not in got
+                got[item.entry, item.author] = outcome
+        longest = max(confirmed.values(), key=len)
+        assert len(longest) > 50 and {"empty", "answer", "aside", "confirm", "placed"} <= words, words
+        for history in confirmed.values():
+            assert history == longest[: len(history)]
+        cells = (0,) * 16
+        for at, (entry, author, place, status, after) in enumerate(longest, 1):
+            expected = ("aside", at)
+            if status == cop.DONE:
+                answer, cells = cop.run(entry, cells)
+                expected = ("answer", at, answer)
+            assert place == at and cells == after and got[entry, author] == expected
+
+
+CHECKS = (
+    table_cases,
+    conflict_cases,
+    conflict_agrees,
+    trial_listing,
+    trial_words,
+    relay_numbers,
+    whole_runs,
+)
+
+if __name__ == "__main__":
+    for check in CHECKS:
+        check()
+        print("ok", check.__name__)
