@@ -2,12 +2,11 @@
 use Prim.Native.Nat.{ℕ, _+_, _<_, _≤_}
 use mathlib.Core.Path.{_≡_, refl, sym, ap, _∙_}
 use mathlib.Core.List.{List, [], _∷_, _++_}
-use mathlib.Core.Bool.{Bool, true, false}
+use mathlib.Core.Bool.{Bool, true}
 use lib.Dec.{leb, eqb}
 use lib.ListN.{length}
 use native.Mathlib.Omega.{arith}
 use borrow.Author.Tests.{leb-true, eqb-true}
-use Rattle.slices.specs.Bytes.{same}
 use Rattle.operation.specs.Operation.{opOk}
 use Rattle.message.specs.declared.Commit.{Commit}
 use Rattle.message.specs.Message.{isBroadcast, commitOf}
@@ -16,9 +15,9 @@ use Rattle.verify.specs.Verify.{commitTagOk}
 use Rattle.replica.specs.declared.Replica.{Replica}
 use Rattle.replica.specs.declared.Why.{Why}
 use Rattle.replica.specs.Outcome.{whyNo, confirmed}
-use Rattle.replica.specs.Replica.{After, stop, inRange, every, firstNo}
+use Rattle.replica.specs.Replica.{stop, inRange, firstNo}
 use Rattle.replica.proofs.Laws.{why-not-0, first-stays, all-yes, every-yes, and-yes}
-use Rattle.client_broadcast.specs.Broadcast.{commitOk, seqOk, digestOk, formChecks, contentChecks, proofChecks, broadcastNo, confirmedReplica, broadcastStep}
+use Rattle.client_broadcast.specs.Broadcast.{commitOk, digestOk, formChecks, contentChecks, proofChecks, broadcastNo, confirmedReplica, broadcastStep}
 
 -- ---- the stages of the checks
 module _ (r : Replica) (m : List ℕ) where

@@ -10,7 +10,7 @@ use Rattle.message.specs.declared.Commit.{Commit}
 use Rattle.message.specs.Message.{isBroadcast, commitOf}
 use Rattle.verify.specs.Verify.{commitTagOk, valueAt, linkValue}
 use Rattle.replica.specs.declared.Replica.{Replica}
-use Rattle.replica.specs.Outcome.{Told, confirmed}
+use Rattle.replica.specs.Outcome.{confirmed}
 use Rattle.replica.specs.Replica.{After, inRange, every, firstNo, stop}
 
 -- 21: "entry, author, status allowed?"

@@ -9,7 +9,7 @@ use native.Mathlib.Omega.{arith}
 use borrow.Author.Tests.{leb-true, eqb-true, le-leb, ne-eqb}
 use Rattle.slices.specs.Bytes.{isZero}
 use Rattle.slices.proofs.Laws.{all-drop, all-replicate}
-use Rattle.operation.specs.Operation.{opOk, allowed}
+use Rattle.operation.specs.Operation.{opOk}
 use Rattle.replica.specs.declared.Replica.{Replica}
 use Rattle.replica.specs.Outcome.{invoked}
 use Rattle.replica.specs.Replica.{Step, inRange, noCurrent, freshReplica, stopStep}

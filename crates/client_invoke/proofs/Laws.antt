@@ -1,23 +1,20 @@
 -- Laws of opening and invoking: what a success implies, and what each case comes to. Assumes nothing.
 use Prim.Native.Nat.{ℕ, _+_, _<_, _≤_}
-use mathlib.Core.Path.{_≡_, refl, sym, ap, _∙_}
-use mathlib.Core.List.{List, [], _∷_, _++_}
-use mathlib.Core.Bool.{Bool, true, false}
-use lib.Dec.{ltb, leb, eqb}
-use lib.ListN.{length, drop, length-append}
-use native.Mathlib.Omega.{arith}
+use mathlib.Core.Path.{_≡_, refl}
+use mathlib.Core.List.{List, _++_}
+use mathlib.Core.Bool.{true}
+use lib.ListN.{length, drop}
 use borrow.Author.Tests.{leb-true, ltb-true, eqb-true}
 use Rattle.slices.specs.Bytes.{bigEndian}
 use Rattle.operation.specs.declared.Operation.{Operation}
 use Rattle.operation.specs.Operation.{allowed, opBytes}
 use Rattle.message.specs.Message.{invokeBytes, itemBytes}
-use Rattle.verify.specs.Verify.{invokeTag}
 use Rattle.verify.proofs.Laws.{invoke-tag-length}
 use Rattle.replica.specs.declared.Replica.{Replica}
 use Rattle.replica.specs.declared.Why.{Why}
 use Rattle.replica.specs.Outcome.{whyNo, invoked}
-use Rattle.replica.specs.Replica.{After, Step, over, stop, stopStep, inRange, noCurrent, firstNo}
-use Rattle.replica.proofs.Laws.{why-not-0, all-yes, ranged, Ranged}
+use Rattle.replica.specs.Replica.{Step, over, stop, inRange, noCurrent}
+use Rattle.replica.proofs.Laws.{why-not-0, all-yes}
 use Rattle.client_invoke.specs.Invoke.{invokeChecks, invokeNo, newOp, invokedReplica, invokeMessage, invokeStep}
 
 -- what a successful invoke implies

@@ -9,7 +9,7 @@ use Rattle.operation.specs.Operation.{allowed}
 use Rattle.message.specs.Message.{invokeBytes}
 use Rattle.verify.specs.Verify.{invokeTag}
 use Rattle.replica.specs.declared.Replica.{Replica}
-use Rattle.replica.specs.Outcome.{Told, opened, invoked}
+use Rattle.replica.specs.Outcome.{opened, invoked}
 use Rattle.replica.specs.Replica.{After, Step, stopStep, inRange, noCurrent, firstNo, refuse, freshReplica, zeroReplica}
 
 -- ---- opening: "van number 1 to 8? 1. Exactly 256 key bytes? 2. A refused opening gives an all-zero book."

@@ -1,8 +1,8 @@
 -- Laws of taking a reply: the stages of its checks, what a success implies, the two lists, and what each case comes to. Assumes nothing.
 use Prim.Native.Nat.{ℕ, _+_, _-_, _*_, _<_, _≤_}
 use mathlib.Core.Path.{_≡_, refl, sym, ap, _∙_}
-use mathlib.Core.List.{List, [], _∷_, _++_, append-assoc}
-use mathlib.Core.Bool.{Bool, true, false, cond, _&&_}
+use mathlib.Core.List.{List, [], _∷_, _++_}
+use mathlib.Core.Bool.{Bool, true, false, _&&_}
 use lib.Dec.{leb, eqb}
 use lib.ListN.{length, getD, take, drop, set, length-append}
 use lib.Seq.{take-suc-set}
@@ -21,7 +21,7 @@ use Rattle.verify.proofs.Laws.{commit-tag-length}
 use Rattle.replica.specs.declared.Replica.{Replica}
 use Rattle.replica.specs.declared.Why.{Why}
 use Rattle.replica.specs.Outcome.{whyNo}
-use Rattle.replica.specs.Replica.{After, Step, over, stop, inRange, every, firstNo, alsoNo}
+use Rattle.replica.specs.Replica.{Step, over, stop, inRange, firstNo, alsoNo}
 use Rattle.replica.proofs.Laws.{why-not-0, first-stays, first-append, first-zero, all-yes, every-yes, ranged}
 use Rattle.client_reply.specs.Reply.{seqAt, itemOk, itemChecks, proofChecks, itemsChecks, lastItem, lastOk, formChecks, lastChecks, replyNo, chainAfter, Sorted, sortItem, sortTo, isAborted, lastResponse, lastSeq, saysOf, status, repliedReplica, commitMessage, replyDone, replyStep}
 

@@ -13,7 +13,7 @@ use Rattle.message.specs.Message.{isReply, replyCount, replyItem, commitBytes}
 use Rattle.verify.specs.Verify.{itemTagOk, commitTag, valueAt, linkValue}
 use Rattle.replica.specs.declared.Replica.{Replica}
 use Rattle.replica.specs.Outcome.{Told, responded, aborted}
-use Rattle.replica.specs.Replica.{After, Step, stopStep, inRange, every, firstNo}
+use Rattle.replica.specs.Replica.{Step, stopStep, inRange, every, firstNo}
 
 -- ---- the checks
 -- "`RE` lists places c + 1, c + 2 and on": the sequence number of item k, counted from 0

@@ -12,7 +12,7 @@ use lib.ListN.{length, getD, take, drop}
 use lib.Seq.{drop-cons, take-add, drop-drop, getD-append-add}
 use Rattle.slices.specs.Bytes.{bigEndian, word, wordAt}
 use Rattle.operation.specs.declared.Operation.{Operation}
-use Rattle.operation.specs.Operation.{opBytes, opAt, opOk, allowed}
+use Rattle.operation.specs.Operation.{opBytes, opAt, opOk}
 
 -- ---- four-byte numbers
 joined : (x a b c r₀ r₁ r₂ : ℕ) → a * 256 + r₀ ≡ x → b * 256 + r₁ ≡ a → c * 256 + r₂ ≡ b → c * 16777216 + r₂ * 65536 + r₁ * 256 + r₀ ≡ x

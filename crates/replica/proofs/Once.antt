@@ -4,12 +4,11 @@ use Prim.Native.Nat.{ℕ}
 use mathlib.Core.Path.{_≡_, refl, sym, ap, _∙_}
 use mathlib.Core.Bool.{cond}
 use lib.Dec.{eqb}
-use Rattle.replica.specs.Outcome.{Told, opened, invoked, responded, aborted, confirmed, refused, halted, refusalNo, haltNo, doneTold, told}
+use Rattle.replica.specs.Outcome.{Told, opened, invoked, responded, aborted, confirmed, refused, halted, told}
 use Rattle.replica.specs.declared.Refusal.{Refusal}
 use Rattle.replica.specs.declared.Refusal.the-variants as R
 use Rattle.replica.specs.declared.Halt.{Halt}
 use Rattle.replica.specs.declared.Halt.the-variants as H
-use Rattle.replica.specs.declared.Done.{Done}
 use Rattle.replica.specs.declared.Done.the-variants as D
 use Rattle.replica.specs.declared.Outcome.{Outcome}
 use Rattle.replica.specs.declared.Outcome.the-variants as O

@@ -1,6 +1,6 @@
 -- Runs of blocks: what they read, and two of them joined.
 use mathlib.Core.Path.{_≡_, refl, sym, ap, _∙_}
-use mathlib.Core.List.{List, [], _∷_, _++_, append-assoc}
+use mathlib.Core.List.{List, _++_, append-assoc}
 use Prim.Native.Nat.{ℕ, zero, suc, _+_, _-_, _*_, _/_, _%_, _≤_, _<_}
 use native.Mathlib.Nat.{add-zero, add-suc, add-assoc}
 use native.Mathlib.Omega.{arith}
@@ -8,7 +8,7 @@ use lib.ListN.{length, take, drop, getD, length-append, length-take, length-drop
 use lib.Seq.{take-all, take-at, getD-take, getD-append-add}
 use Rattle.slices.specs.Bytes.{wordAt}
 use Rattle.sha256_core.specs.declared.State.{State}
-use Rattle.sha256.specs.Sha256.{padding, pad, wordsAt, blockCount, initial, compressOf, hashFrom, bytesOf, sha256}
+use Rattle.sha256.specs.Sha256.{padding, pad, wordsAt, initial, hashFrom, bytesOf, sha256}
 use Rattle.sha256.specs.Inner.{countOf, restFrom}
 use Rattle.sha256.proofs.Padding.{count-is}
 

@@ -1,7 +1,6 @@
 -- FIPS 180-4's examples for SHA-256, by computation.
 use mathlib.Core.Path.{_≡_, refl}
-use mathlib.Core.List.{List, [], _∷_}
-use Prim.Native.Nat.{ℕ}
+use mathlib.Core.List.{[], _∷_}
 use Rattle.sha256_core.specs.Round.{kTable, roundOf, roundAt, addState}
 use Rattle.slices.specs.Bytes.{bigEndian, wordAt}
 use Rattle.sha256.specs.Sha256.{padding, pad, wordsAt, blockCount, initial, nextWord, schedule, rounds, compressOf, hashFrom, bytesOf, sha256}

@@ -1,13 +1,12 @@
 -- The padded message: whole blocks, and bytes where the message's are.
-use mathlib.Core.Path.{_≡_, refl, sym, ap, _∙_}
+use mathlib.Core.Path.{_≡_, refl, ap, _∙_}
 use mathlib.Core.List.{List, [], _∷_, _++_, append-assoc}
 use mathlib.Core.Bool.{Bool, true, _&&_, and-assoc, and-true}
-use Prim.Native.Nat.{ℕ, zero, suc, _+_, _-_, _*_, _/_, _%_, _^_, _≤_, _<_}
+use Prim.Native.Nat.{ℕ, zero, suc, _+_, _-_, _*_, _/_, _%_, _^_, _≤_}
 use native.Mathlib.Nat.{zero-add}
 use native.Mathlib.Omega.{arith}
-use lib.Dec.{ltb}
 use borrow.Author.Tests.{lt-ltb}
-use lib.ListN.{length, take, drop, set, replicate, length-append, length-replicate, length-take}
+use lib.ListN.{length, take, drop, set, replicate, length-append, length-replicate}
 use lib.Seq.{take-at, set-append-seam, take-append-add}
 use Rattle.slices.specs.Bytes.{all, put, bigEndian}
 use Rattle.sha256.specs.Sha256.{isByte, zeroCount, padding, pad, blockCount, bytesOf, sha256}

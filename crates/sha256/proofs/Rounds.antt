@@ -1,10 +1,10 @@
 -- Runs of rounds joined, and the words that the next word of a schedule reads.
-use mathlib.Core.Path.{_≡_, refl}
+use mathlib.Core.Path.{_≡_}
 use mathlib.Core.List.{List}
 use Prim.Native.Nat.{ℕ, zero, suc, _+_, _-_, _≤_}
 use native.Mathlib.Nat.{add-zero, add-suc}
 use native.Mathlib.Omega.{arith}
-use lib.ListN.{take, getD}
+use lib.ListN.{take}
 use lib.Seq.{getD-take}
 use Rattle.sha256_core.specs.declared.State.{State}
 use Rattle.sha256_core.specs.Round.{roundAt}

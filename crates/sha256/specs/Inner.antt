@@ -1,6 +1,6 @@
 -- Internal: what the inner functions return. No part of the definition of SHA-256.
 use mathlib.Core.List.{List, _++_}
-use Prim.Native.Nat.{ℕ, zero, suc, _+_, _*_, _/_}
+use Prim.Native.Nat.{ℕ, zero, suc, _+_, _/_}
 use lib.ListN.{length}
 use Rattle.sha256_core.specs.declared.State.{State}
 use Rattle.sha256_core.specs.Round.{roundAt}

@@ -1,36 +1,25 @@
-use mathlib.Core.Path.{_≡_, refl, sym, ap, _∙_}
+use mathlib.Core.Path.{sym, _∙_}
 use Rattle.client.specs.Receive.{receiveStep}
 use borrow.Author.Needs.{needs}
 use Rattle.client.proofs.receive.Statement.{statement}
 use Rattle.client.proofs.receive.Tie as tie
-use Rattle.client.proofs.receive.Reads as reads
-use Rattle.client.proofs.receive.Lts as lts
-use Rattle.client_broadcast.proofs.broadcast.Reads as broadcast-reads
-use Rattle.client_reply.proofs.reply.Reads as reply-reads
-use Rattle.message.proofs.is_reply.Reads as is-reply-reads
 
--- src/lib.rt:30:8
 is-reply-requires : tie.Need-is-reply-requires
 is-reply-requires c κs = search needs
 
--- src/lib.rt:31:9
 reply-requires : tie.Need-reply-requires
 reply-requires c κs = search needs
 
--- src/lib.rt:33:9
 broadcast-requires : tie.Need-broadcast-requires
 broadcast-requires c κs = search needs
 
--- src/lib.rt:26:1
 same-length : tie.Need-same-length
 same-length c = search needs
 
--- src/lib.rt:26:1
 returns : tie.Need-returns
 unfolding receiveStep
 returns c = let t = sym (c .before .before .before .before .before .is-reply .ensures) ∙ c .before .before .before .before .if1 .taken in let e = c .before .before .reply .ensures in (e .0 ∙ rw t, e .1 ∙ rw t)
 
--- src/lib.rt:26:1
 returns-2 : tie.Need-returns-2
 unfolding receiveStep
 returns-2 c = let t = sym (c .before .before .is-reply .ensures) ∙ c .before .if1 .left in (c .broadcast .ensures ∙ rw t, rw t)

@@ -1,6 +1,6 @@
-use Rattle.client_broadcast.specs.Broadcast.{commitOk, seqOk, nextValue, digestOk, formChecks, contentChecks, proofChecks, broadcastNo, confirmedReplica}
-use Rattle.client_broadcast.proofs.Laws.{form-stops, content-stops, proof-decides, form-long, content-author, broadcast-yes, broadcast-stops, broadcast-goes}
-use mathlib.Core.Path.{_≡_, refl, sym, ap, _∙_}
+use Rattle.client_broadcast.specs.Broadcast.{formChecks, contentChecks, proofChecks}
+use Rattle.client_broadcast.proofs.Laws.{form-stops, content-stops, proof-decides, form-long, content-author}
+use mathlib.Core.Path.{_≡_, sym, ap, _∙_}
 use Rattle.replica.specs.Outcome.{checkNo}
 use Rattle.replica.specs.Replica.{firstNo}
 use Rattle.message.specs.declared.Commit.{Commit}
@@ -8,14 +8,7 @@ use native.Mathlib.Omega.{arith}
 use borrow.Author.Needs.{needs}
 use Rattle.client_broadcast.proofs.broadcast_check.Statement.{statement}
 use Rattle.client_broadcast.proofs.broadcast_check.Tie as tie
-use Rattle.client_broadcast.proofs.broadcast_check.Reads as reads
-use Rattle.client_broadcast.proofs.broadcast_check.Lts as lts
-use Rattle.client_broadcast.proofs.content_check.Reads as content-check-reads
-use Rattle.client_broadcast.proofs.form_check.Reads as form-check-reads
-use Rattle.client_broadcast.proofs.proof_check.Reads as proof-check-reads
-use Rattle.message.proofs.read_commit.Reads as read-commit-reads
 
--- src/lib.rt:77:11
 -- past the first checks, and past those on the content
 formed : (c : tie.After-enum-told) → let a = c .before .before .before .before .args in 0 ≡ firstNo 0 (formChecks (a .r) (a .m .now))
 formed c = sym (ap checkNo (c .enum-told .given .1)) ∙ c .before .before .form-check .ensures
@@ -26,39 +19,30 @@ contented c = sym (ap checkNo (c .enum-told2 .given .1)) ∙ c .before .before .
 form-check-requires : tie.Need-form-check-requires
 form-check-requires c κs = search needs
 
--- src/lib.rt:78:19
 enum-known-why : tie.Need-enum-known-why
 enum-known-why c = search needs
 
--- src/lib.rt:80:17
 enum-told : tie.Need-enum-told
 enum-told c = search needs
 
--- src/lib.rt:80:17
 read-commit-requires : tie.Need-read-commit-requires
 read-commit-requires c κs = let h = form-long _ _ (formed c) in omega (arith, h)
 
--- src/lib.rt:81:19
 content-check-requires : tie.Need-content-check-requires
 content-check-requires c κs = search needs
 
--- src/lib.rt:82:27
 enum-known-why-2 : tie.Need-enum-known-why-2
 enum-known-why-2 c = search needs
 
--- src/lib.rt:83:32
 enum-told-2 : tie.Need-enum-told-2
 enum-told-2 c = search needs
 
--- src/lib.rt:83:32
 proof-check-requires : tie.Need-proof-check-requires
 proof-check-requires c κs = let k = c .before .before .before in content-author (k .before .before .before .before .before .args .r) (k .read-commit .result) (contented c)
 
--- src/lib.rt:74:1
 returns : tie.Need-returns
 returns c = form-stops _ _ (c .before .why .given .0 .0) (sym (ap checkNo (c .before .why .given .1)) ∙ c .before .before .before .form-check .ensures)
 
--- src/lib.rt:74:1
 returns-2 : tie.Need-returns-2
 returns-2 c =
     let k = c .before .before .before .before in
@@ -66,7 +50,6 @@ returns-2 c =
     let e = sym (ap checkNo (c .before .why2 .given .1)) ∙ c .before .before .before .content-check .ensures in
     content-stops (a .r) (a .m .now) (c .before .why2 .given .0 .0) (formed (k .before)) (e ∙ ap (λ (x : Commit). firstNo 0 (contentChecks (a .r) x)) (k .read-commit .ensures))
 
--- src/lib.rt:74:1
 returns-3 : tie.Need-returns-3
 returns-3 c =
     let k = c .before .before .before .before in

@@ -1,34 +1,22 @@
-use Rattle.client_broadcast.specs.Broadcast.{commitOk, seqOk, nextValue, digestOk, formChecks, contentChecks, proofChecks, broadcastNo, confirmedReplica}
 use borrow.Author.Needs.{needs}
 use Rattle.client_broadcast.proofs.form_check.Statement.{statement}
 use Rattle.client_broadcast.proofs.form_check.Tie as tie
-use Rattle.client_broadcast.proofs.form_check.Reads as reads
-use Rattle.client_broadcast.proofs.form_check.Lts as lts
-use Rattle.message.proofs.is_broadcast.Reads as is-broadcast-reads
-use Rattle.replica.proofs.also.Reads as also-reads
-use Rattle.replica.proofs.in_range.Reads as in-range-reads
 
--- src/lib.rt:45:40
 in-range-requires : tie.Need-in-range-requires
 in-range-requires c κs = search needs
 
--- src/lib.rt:45:9
 also-requires : tie.Need-also-requires
 also-requires c κs = search needs
 
--- src/lib.rt:46:9
 also-requires-2 : tie.Need-also-requires-2
 also-requires-2 c κs = search needs
 
--- src/lib.rt:47:22
 is-broadcast-requires : tie.Need-is-broadcast-requires
 is-broadcast-requires c κs = search needs
 
--- src/lib.rt:47:5
 also-requires-3 : tie.Need-also-requires-3
 also-requires-3 c κs = search needs
 
--- src/lib.rt:42:1
 returns : tie.Need-returns
 returns c = rw (c .also3 .ensures, c .before .is-broadcast .ensures, c .before .before .also2 .ensures, c .before .before .before .before .also .ensures, c .before .before .before .before .before .in-range .ensures)
 

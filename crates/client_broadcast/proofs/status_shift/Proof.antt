@@ -1,39 +1,28 @@
-use Rattle.slices.specs.Bytes.{put}
 use lib.ListN.{length, take, drop, replicate, length-drop}
 use lib.Seq.{take-all}
-use mathlib.Core.List.{List, [], _∷_}
+use mathlib.Core.List.{[]}
 use native.Mathlib.Omega.{arith}
-use Prim.Native.Nat.{ℕ}
-use Rattle.message.proofs.Laws.{put-next, two-parts}
-use mathlib.Core.Path.{_≡_, refl, sym, ap, _∙_}
+use Rattle.message.proofs.Laws.{put-next}
+use mathlib.Core.Path.{_≡_, refl, _∙_}
 use borrow.Author.Needs.{needs}
 use Rattle.client_broadcast.proofs.status_shift.Statement.{statement}
 use Rattle.client_broadcast.proofs.status_shift.Tie as tie
-use Rattle.client_broadcast.proofs.status_shift.Reads as reads
-use Rattle.client_broadcast.proofs.status_shift.Lts as lts
-use Rattle.slices.proofs.copy_to.Reads as copy-to-reads
 
--- src/lib.rt:103:21
 slice-aggregate-copy-to : tie.Need-slice-aggregate-copy-to
 slice-aggregate-copy-to c = search needs
 
--- src/lib.rt:103:32
 sub-copy-to : tie.Need-sub-copy-to
 sub-copy-to c = search needs
 
--- src/lib.rt:103:32
 part-copy-to-start : tie.Need-part-copy-to-start
 part-copy-to-start c = search needs
 
--- src/lib.rt:103:32
 part-copy-to-end : tie.Need-part-copy-to-end
 part-copy-to-end c = search needs
 
--- src/lib.rt:103:5
 copy-to-requires : tie.Need-copy-to-requires
 copy-to-requires c κs = search needs
 
--- src/lib.rt:99:1
 returns : tie.Need-returns
 returns c =
     let a = c .before .before .before .before .before .args in

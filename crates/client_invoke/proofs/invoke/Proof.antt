@@ -1,25 +1,16 @@
-use Rattle.client_invoke.specs.Invoke.{openNo, openStep, invokeNo, invokeMessage, invokedReplica, newOp}
-use mathlib.Core.Path.{_≡_, refl, sym, ap, _∙_}
+use Rattle.client_invoke.specs.Invoke.{invokeNo, invokeMessage}
+use mathlib.Core.Path.{_≡_, sym, ap, _∙_}
 use Rattle.client_invoke.proofs.Laws.{invoke-stops, invoke-goes, invoke-yes, Invoked}
 use Rattle.replica.proofs.Laws.{ranged}
 use Rattle.replica.specs.Outcome.{checkNo, invoked}
 use Rattle.replica.specs.declared.Replica.{Replica}
-use Rattle.replica.specs.Replica.{After}
 use native.Mathlib.Omega.{arith}
 use lib.ListN.{length}
-use Prim.Native.Nat.{ℕ, _+_}
+use Prim.Native.Nat.{_+_}
 use borrow.Author.Needs.{needs}
 use Rattle.client_invoke.proofs.invoke.Statement.{statement}
 use Rattle.client_invoke.proofs.invoke.Tie as tie
-use Rattle.client_invoke.proofs.invoke.Reads as reads
-use Rattle.client_invoke.proofs.invoke.Lts as lts
-use Rattle.client_invoke.proofs.invoke_check.Reads as invoke-check-reads
-use Rattle.client_invoke.proofs.invoked_replica.Reads as invoked-replica-reads
-use Rattle.message.proofs.write_invoke.Reads as write-invoke-reads
-use Rattle.replica.proofs.stopped.Reads as stopped-reads
-use Rattle.verify.proofs.invoke_tag.Reads as invoke-tag-reads
 
--- src/lib.rt:65:11
 -- where no check has a no
 passed : (c : tie.After-enum-told) → let a = c .before .before .before .before .args in invokeNo (a .r) (a .kind) (a .cell) (a .amount) (length (a .out .now)) ≡ 0
 passed c = sym (c .before .before .invoke-check .ensures) ∙ ap checkNo (c .enum-told .given .1)
@@ -30,35 +21,27 @@ yes c = invoke-yes _ _ _ _ _ (passed c)
 invoke-check-requires : tie.Need-invoke-check-requires
 invoke-check-requires c κs = search needs
 
--- src/lib.rt:66:19
 enum-known-why : tie.Need-enum-known-why
 enum-known-why c = search needs
 
--- src/lib.rt:66:27
 stopped-requires : tie.Need-stopped-requires
 stopped-requires c κs = search needs
 
--- src/lib.rt:69:24
 enum-told : tie.Need-enum-told
 enum-told c = search needs
 
--- src/lib.rt:69:24
 add-count : tie.Need-add-count
 add-count c = record { fits = omega (arith, yes (c .before) .below) }
 
--- src/lib.rt:76:17
 invoke-tag-requires : tie.Need-invoke-tag-requires
 invoke-tag-requires c κs = let g = ranged _ (yes (c .before .before) .range) in (g .low, g .high)
 
--- src/lib.rt:77:13
 write-invoke-requires : tie.Need-write-invoke-requires
 write-invoke-requires c κs = yes (c .before .before .before .before) .enough
 
--- src/lib.rt:86:26
 invoked-replica-requires : tie.Need-invoked-replica-requires
 invoked-replica-requires c κs = search needs
 
--- src/lib.rt:60:1
 returns : tie.Need-returns
 returns c =
     let a = c .before .before .before .before .before .before .args in
@@ -66,11 +49,9 @@ returns c =
     let l = invoke-stops (a .r) (a .kind) (a .cell) (a .amount) (a .out .now) (w .given .0 .0) (sym (ap checkNo (w .given .1)) ∙ c .before .before .before .before .invoke-check .ensures) in
     (c .stopped .ensures ∙ l .0, l .1)
 
--- src/lib.rt:60:1
 same-length : tie.Need-same-length
 same-length c = search needs
 
--- src/lib.rt:60:1
 returns-2 : tie.Need-returns-2
 unfolding invokeMessage
 returns-2 c =

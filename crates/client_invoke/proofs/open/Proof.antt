@@ -1,50 +1,37 @@
-use Rattle.client_invoke.specs.Invoke.{openNo, openStep, invokeNo, invokeMessage, invokedReplica, newOp}
-use mathlib.Core.Path.{_≡_, refl, sym, ap, _∙_}
+use Rattle.client_invoke.specs.Invoke.{openNo, openStep}
+use mathlib.Core.Path.{_≡_, refl, ap, _∙_}
 use borrow.Author.Tests.{eq-eqb, ne-eqb}
 use Rattle.slices.specs.Bytes.{put}
 use lib.ListN.{replicate}
 use Rattle.replica.specs.declared.Replica.{Replica}
 use Rattle.replica.specs.Outcome.{opened}
-use Rattle.replica.specs.Replica.{After, freshReplica}
+use Rattle.replica.specs.Replica.{freshReplica}
 use Rattle.message.proofs.Laws.{part-all}
 use borrow.Author.Needs.{needs}
 use Rattle.client_invoke.proofs.open.Statement.{statement}
 use Rattle.client_invoke.proofs.open.Tie as tie
-use Rattle.client_invoke.proofs.open.Reads as reads
-use Rattle.client_invoke.proofs.open.Lts as lts
-use Rattle.replica.proofs.fresh.Reads as fresh-reads
-use Rattle.replica.proofs.refused.Reads as refused-reads
-use Rattle.slices.proofs.copy_to.Reads as copy-to-reads
 
--- src/lib.rt:20:29
 slice-aggregate-copy-to : tie.Need-slice-aggregate-copy-to
 slice-aggregate-copy-to c = search needs
 
--- src/lib.rt:20:13
 copy-to-requires : tie.Need-copy-to-requires
 copy-to-requires c κs = search needs
 
--- src/lib.rt:22:26
 fresh-requires : tie.Need-fresh-requires
 fresh-requires c κs = search needs
 
--- src/lib.rt:26:30
 fresh-requires-2 : tie.Need-fresh-requires-2
 fresh-requires-2 c κs = search needs
 
--- src/lib.rt:26:13
 refused-requires : tie.Need-refused-requires
 refused-requires c κs = search needs
 
--- src/lib.rt:29:26
 fresh-requires-3 : tie.Need-fresh-requires-3
 fresh-requires-3 c κs = search needs
 
--- src/lib.rt:29:9
 refused-requires-2 : tie.Need-refused-requires-2
 refused-requires-2 c κs = search needs
 
--- src/lib.rt:13:1
 returns : tie.Need-returns
 unfolding openStep openNo
 returns c =
@@ -54,12 +41,10 @@ returns c =
     rw (t2 .before .if1 .taken, eq-eqb _ _ (t2 .if2 .taken))
     (ap (λ (b : Replica). record { replica = b; says = opened }) (c .fresh .ensures ∙ ap (freshReplica _) (c .before .before .copy-to .ensures ∙ k)))
 
--- src/lib.rt:13:1
 returns-2 : tie.Need-returns-2
 unfolding openStep openNo
 returns-2 c = rw (c .refused .ensures, c .before .fresh2 .ensures, c .before .before .before .if1 .taken, ne-eqb _ _ (c .before .before .if2 .left))
 
--- src/lib.rt:13:1
 returns-3 : tie.Need-returns-3
 unfolding openStep openNo
 returns-3 c = rw (c .refused2 .ensures, c .before .fresh3 .ensures, c .before .before .if1 .left)

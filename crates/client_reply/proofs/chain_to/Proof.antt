@@ -1,15 +1,11 @@
-use Rattle.client_reply.specs.Reply.{itemOk, itemValue, itemChainOk, itemChecks, proofChecks, itemsChecks, lastOk, formChecks, replyNo, chainItem, chainTo, chainAfter, sortTo, repliedReplica, commitMessage}
-use mathlib.Core.Path.{_≡_, refl, sym, ap, _∙_}
+use Rattle.client_reply.specs.Reply.{chainTo}
+use mathlib.Core.Path.{_≡_, refl, _∙_}
 use native.Mathlib.Omega.{arith}
-use Prim.Native.Nat.{ℕ, _+_, _-_, _*_, _<_, _≤_}
+use Prim.Native.Nat.{_-_, _≤_}
 use native.Mathlib.Numerals.{add-one}
 use borrow.Author.Needs.{needs}
 use Rattle.client_reply.proofs.chain_to.Statement.{statement}
 use Rattle.client_reply.proofs.chain_to.Tie as tie
-use Rattle.client_reply.proofs.chain_to.Reads as reads
-use Rattle.client_reply.proofs.chain_to.Lts as lts
-use Rattle.client_reply.proofs.chain_item.Reads as chain-item-reads
-use Rattle.client_reply.proofs.item_of.Reads as item-of-reads
 
 abbrev Inv-loop : tie.InvT-loop
 Inv-loop c held m n t₀ k₀ t k = (t ≡ chainTo c held m t₀ k) × (k ≤ n)
@@ -17,33 +13,26 @@ Inv-loop c held m n t₀ k₀ t k = (t ≡ chainTo c held m t₀ k) × (k ≤ n)
 abbrev μ-loop : tie.MeasureT-loop
 μ-loop c held m n t₀ k₀ t k = n - k
 
--- src/lib.rt:179:5
 loop-holds : tie.Need-loop-holds Inv-loop μ-loop
 unfolding chainTo
 loop-holds c = (refl, search needs)
 
--- src/lib.rt:180:13
 item-of-requires : tie.Need-item-of-requires Inv-loop μ-loop
 item-of-requires c κs = search needs
 
--- src/lib.rt:181:13
 chain-item-requires : tie.Need-chain-item-requires Inv-loop μ-loop
 chain-item-requires c κs = search needs
 
--- src/lib.rt:183:9
 add-k : tie.Need-add-k Inv-loop μ-loop
 add-k c = search needs
 
--- src/lib.rt:179:5
 loop-less : tie.Need-loop-less Inv-loop μ-loop
 loop-less c = search needs
 
--- src/lib.rt:179:5
 loop-again : tie.Need-loop-again Inv-loop μ-loop
 unfolding chainTo
 loop-again c = (c .chain-item .ensures ∙ rw (add-one, c .before .before .before .loop .inv .0, c .before .item-of .ensures), search needs)
 
--- src/lib.rt:173:1
 returns : tie.Need-returns Inv-loop μ-loop
 returns c = let e : c .before .loop .k ≡ c .before .before .before .args .n = omega arith in c .before .loop .inv .0 ∙ rw e
 

@@ -1,30 +1,22 @@
-use Rattle.client_reply.specs.Reply.{itemOk, itemValue, itemChainOk, itemChecks, proofChecks, itemsChecks, lastOk, formChecks, replyNo, chainItem, chainTo, chainAfter, sortTo, repliedReplica, commitMessage}
-use mathlib.Core.Path.{_≡_, refl, sym, ap, _∙_}
+use Rattle.client_reply.specs.Reply.{itemChecks}
+use mathlib.Core.Path.{sym}
 use Rattle.replica.proofs.Laws.{first-stays, why-not-0}
 use borrow.Author.Needs.{needs}
 use Rattle.client_reply.proofs.item_also.Statement.{statement}
 use Rattle.client_reply.proofs.item_also.Tie as tie
-use Rattle.client_reply.proofs.item_also.Reads as reads
-use Rattle.client_reply.proofs.item_also.Lts as lts
-use Rattle.client_reply.proofs.item_check.Reads as item-check-reads
 
--- src/lib.rt:110:19
 enum-known-so-far : tie.Need-enum-known-so-far
 enum-known-so-far c = search needs
 
--- src/lib.rt:111:24
 enum-told : tie.Need-enum-told
 enum-told c = search needs
 
--- src/lib.rt:111:24
 item-check-requires : tie.Need-item-check-requires
 item-check-requires c κs = search needs
 
--- src/lib.rt:105:1
 returns : tie.Need-returns
 returns c = let a = c .before .before .before .args in rw (c .before .so-far .given .1) (sym (first-stays _ (itemChecks (a .r) (a .k) (a .i)) (why-not-0 (c .before .so-far .given .0 .0))))
 
--- src/lib.rt:105:1
 returns-2 : tie.Need-returns-2
 returns-2 c = rw (c .before .enum-told .given .1) (c .item-check .ensures)
 

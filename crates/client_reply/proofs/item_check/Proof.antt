@@ -1,26 +1,18 @@
-use Rattle.client_reply.proofs.Laws.{item-allowed, item-goes, item-stops, items-more, last-goes, last-stops, sort-own, sort-skip, sort-other, take-set-more, Formed, form-yes, form-stops, rest-decides, reply-formed, last-passed, last-yes, aborted-is, response-is, reply-stops, reply-goes, commit-message-length}
-use mathlib.Core.Path.{_≡_, refl, sym, ap, _∙_}
+use Rattle.client_reply.proofs.Laws.{item-allowed, item-goes, item-stops}
+use mathlib.Core.Path.{sym, _∙_}
 use borrow.Author.Needs.{needs}
 use Rattle.client_reply.proofs.item_check.Statement.{statement}
 use Rattle.client_reply.proofs.item_check.Tie as tie
-use Rattle.client_reply.proofs.item_check.Reads as reads
-use Rattle.client_reply.proofs.item_check.Lts as lts
-use Rattle.client_reply.proofs.item_ok.Reads as item-ok-reads
-use Rattle.client_reply.proofs.item_proof.Reads as item-proof-reads
 
--- src/lib.rt:97:8
 item-ok-requires : tie.Need-item-ok-requires
 item-ok-requires c κs = search needs
 
--- src/lib.rt:98:9
 item-proof-requires : tie.Need-item-proof-requires
 item-proof-requires c κs = let e = item-allowed _ _ _ (sym (c .before .item-ok .ensures) ∙ c .if1 .taken) in (search needs, search needs, e .low, e .high)
 
--- src/lib.rt:93:1
 returns : tie.Need-returns
 returns c = let a = c .before .before .before .args in c .item-proof .ensures ∙ item-goes (a .r) (a .k) (a .i) (sym (c .before .before .item-ok .ensures) ∙ c .before .if1 .taken)
 
--- src/lib.rt:93:1
 returns-2 : tie.Need-returns-2
 returns-2 c = let a = c .before .before .args in item-stops (a .r) (a .k) (a .i) (sym (c .before .item-ok .ensures) ∙ c .if1 .left)
 

@@ -1,18 +1,14 @@
-use Rattle.client_reply.specs.Reply.{itemOk, itemValue, itemChainOk, itemChecks, proofChecks, itemsChecks, lastOk, formChecks, replyNo, chainItem, chainTo, chainAfter, sortTo, repliedReplica, commitMessage}
-use mathlib.Core.Path.{_≡_, refl, sym, ap, _∙_}
+use Rattle.client_reply.specs.Reply.{itemChecks, itemsChecks}
+use mathlib.Core.Path.{_≡_, refl, ap, _∙_}
 use native.Mathlib.Omega.{arith}
-use Prim.Native.Nat.{ℕ, _+_, _-_, _*_, _<_, _≤_}
+use Prim.Native.Nat.{_-_, _≤_}
 use Rattle.replica.specs.Outcome.{checkNo}
 use Rattle.replica.specs.Replica.{firstNo}
-use Rattle.client_reply.proofs.Laws.{item-allowed, item-goes, item-stops, items-more, last-goes, last-stops, sort-own, sort-skip, sort-other, take-set-more, Formed, form-yes, form-stops, rest-decides, reply-formed, last-passed, last-yes, aborted-is, response-is, reply-stops, reply-goes, commit-message-length}
+use Rattle.client_reply.proofs.Laws.{items-more}
 use Rattle.message.specs.declared.Item.{Item}
 use borrow.Author.Needs.{needs}
 use Rattle.client_reply.proofs.items_check.Statement.{statement}
 use Rattle.client_reply.proofs.items_check.Tie as tie
-use Rattle.client_reply.proofs.items_check.Reads as reads
-use Rattle.client_reply.proofs.items_check.Lts as lts
-use Rattle.client_reply.proofs.item_also.Reads as item-also-reads
-use Rattle.client_reply.proofs.item_of.Reads as item-of-reads
 
 abbrev Inv-loop : tie.InvT-loop
 Inv-loop r m n q₀ k₀ q k = (checkNo q ≡ firstNo 0 (itemsChecks r m k)) × (k ≤ n)
@@ -20,28 +16,22 @@ Inv-loop r m n q₀ k₀ q k = (checkNo q ≡ firstNo 0 (itemsChecks r m k)) × 
 abbrev μ-loop : tie.MeasureT-loop
 μ-loop r m n q₀ k₀ q k = n - k
 
--- src/lib.rt:122:5
 loop-holds : tie.Need-loop-holds Inv-loop μ-loop
 unfolding itemsChecks
 loop-holds c = (refl, search needs)
 
--- src/lib.rt:123:13
 item-of-requires : tie.Need-item-of-requires Inv-loop μ-loop
 item-of-requires c κs = search needs
 
--- src/lib.rt:124:9
 item-also-requires : tie.Need-item-also-requires Inv-loop μ-loop
 item-also-requires c κs = search needs
 
--- src/lib.rt:125:9
 add-k : tie.Need-add-k Inv-loop μ-loop
 add-k c = search needs
 
--- src/lib.rt:122:5
 loop-less : tie.Need-loop-less Inv-loop μ-loop
 loop-less c = search needs
 
--- src/lib.rt:122:5
 loop-again : tie.Need-loop-again Inv-loop μ-loop
 loop-again c =
     let a = c .before .before .before .before .before .args in
@@ -49,7 +39,6 @@ loop-again c =
     let e = ap (λ (i : Item). firstNo (checkNo (l .q)) (itemChecks (a .r) (l .k) i)) (c .before .item-of .ensures) in
     (c .item-also .ensures ∙ e ∙ rw (l .inv .0) (items-more (a .r) (a .m .now) (l .k)), search needs)
 
--- src/lib.rt:116:1
 returns : tie.Need-returns Inv-loop μ-loop
 returns c = let e : c .before .loop .k ≡ c .before .before .before .args .n = omega arith in c .before .loop .inv .0 ∙ rw e
 

@@ -1,15 +1,10 @@
 use borrow.Author.Tests.{lt-ltb, le-ltb}
-use borrow.Author.Needs.{needs}
 use Rattle.client_reply.proofs.larger_of.Statement.{statement}
 use Rattle.client_reply.proofs.larger_of.Tie as tie
-use Rattle.client_reply.proofs.larger_of.Reads as reads
-use Rattle.client_reply.proofs.larger_of.Lts as lts
 
--- src/lib.rt:310:1
 returns : tie.Need-returns
 returns c = simp (lt-ltb _ _ (c .if1 .taken))
 
--- src/lib.rt:310:1
 returns-2 : tie.Need-returns-2
 returns-2 c = simp (le-ltb _ _ (c .if1 .left))
 

@@ -1,20 +1,14 @@
-use mathlib.Core.Path.{_≡_, refl, sym, ap, _∙_}
+use mathlib.Core.Path.{refl}
 use borrow.Author.Needs.{needs}
 use Rattle.client_reply.proofs.push_own.Statement.{statement}
 use Rattle.client_reply.proofs.push_own.Tie as tie
-use Rattle.client_reply.proofs.push_own.Reads as reads
-use Rattle.client_reply.proofs.push_own.Lts as lts
-use Rattle.client_reply.proofs.put_op.Reads as put-op-reads
 
--- src/lib.rt:235:9
 put-op-requires : tie.Need-put-op-requires
 put-op-requires c κs = search needs
 
--- src/lib.rt:238:11
 add-t : tie.Need-add-t
 add-t c = search needs
 
--- src/lib.rt:229:1
 returns : tie.Need-returns
 returns c = (rw (c .put-op .ensures), refl, refl)
 

@@ -1,26 +1,15 @@
-use Rattle.client_reply.specs.Reply.{itemOk, itemValue, itemChainOk, itemChecks, proofChecks, itemsChecks, lastOk, formChecks, replyNo, chainItem, chainTo, chainAfter, sortTo, repliedReplica, commitMessage}
+use Rattle.client_reply.specs.Reply.{replyNo, chainAfter}
 use mathlib.Core.Path.{_≡_, refl, sym, ap, _∙_}
-use Rattle.client_reply.proofs.Laws.{item-allowed, item-goes, item-stops, items-more, last-goes, last-stops, sort-own, sort-skip, sort-other, take-set-more, Formed, form-yes, form-stops, rest-decides, reply-formed, last-passed, last-yes, aborted-is, response-is, reply-stops, reply-goes, commit-message-length}
+use Rattle.client_reply.proofs.Laws.{Formed, form-yes, reply-formed, last-passed, last-yes, reply-stops, reply-goes, commit-message-length}
 use native.Mathlib.Omega.{arith}
 use Rattle.replica.specs.Outcome.{checkNo}
-use Rattle.replica.specs.Replica.{firstNo}
-use lib.ListN.{length, take, drop, getD, set}
-use Prim.Native.Nat.{ℕ, _+_, _-_, _*_, _<_, _≤_}
+use lib.ListN.{length, getD}
+use Prim.Native.Nat.{_-_, _≤_}
 use Rattle.verify.proofs.Laws.{value-length}
 use borrow.Author.Needs.{needs}
 use Rattle.client_reply.proofs.reply.Statement.{statement}
 use Rattle.client_reply.proofs.reply.Tie as tie
-use Rattle.client_reply.proofs.reply.Reads as reads
-use Rattle.client_reply.proofs.reply.Lts as lts
-use Rattle.client_reply.proofs.chain_to.Reads as chain-to-reads
-use Rattle.client_reply.proofs.decide.Reads as decide-reads
-use Rattle.client_reply.proofs.replied_replica.Reads as replied-replica-reads
-use Rattle.client_reply.proofs.reply_check.Reads as reply-check-reads
-use Rattle.client_reply.proofs.says.Reads as says-reads
-use Rattle.client_reply.proofs.write_commit.Reads as write-commit-reads
-use Rattle.replica.proofs.stopped.Reads as stopped-reads
 
--- src/lib.rt:379:11
 -- where no check has a no
 passed : (c : tie.After-enum-told) → let a = c .before .before .before .before .before .args in replyNo (a .r) (a .m .now) (length (a .out .now)) ≡ 0
 passed c = sym (c .before .before .reply-check .ensures) ∙ ap checkNo (c .enum-told .given .1)
@@ -38,59 +27,45 @@ chained c = c .before .before .before .before .before .before .before .chain-to 
 reply-check-requires : tie.Need-reply-check-requires
 reply-check-requires c κs = search needs
 
--- src/lib.rt:380:19
 enum-known-why : tie.Need-enum-known-why
 enum-known-why c = search needs
 
--- src/lib.rt:380:27
 stopped-requires : tie.Need-stopped-requires
 stopped-requires c κs = search needs
 
--- src/lib.rt:382:21
 enum-told : tie.Need-enum-told
 enum-told c = search needs
 
--- src/lib.rt:382:21
 shared-slice-read-n : tie.Need-shared-slice-read-n
 shared-slice-read-n c = let y = yes (c .before) in omega (arith, y .long)
 
--- src/lib.rt:384:34
 cast-decide : tie.Need-cast-decide
 cast-decide c = omega (arith, c .before .shared-slice-known2 .given 2)
 
--- src/lib.rt:384:17
 decide-requires : tie.Need-decide-requires
 decide-requires c κs = let y = yes (c .before .before) in (refl, some (c .before .before), y .few, omega (arith, y .long))
 
--- src/lib.rt:385:63
 cast-chain-to : tie.Need-cast-chain-to
 cast-chain-to c = omega (arith, c .before .before .shared-slice-known2 .given 2)
 
--- src/lib.rt:385:17
 chain-to-requires : tie.Need-chain-to-requires
 chain-to-requires c κs = let y = yes (c .before .before .before) in (y .few, y .early, omega (arith, y .long))
 
--- src/lib.rt:386:13
 write-commit-requires : tie.Need-write-commit-requires
 write-commit-requires c κs = let y = yes (c .before .before .before .before .before) in (y .few, y .early, y .low, y .high, y .enough)
 
--- src/lib.rt:388:26
 replied-replica-requires : tie.Need-replied-replica-requires
 replied-replica-requires c κs = (some (c .before .before .before .before .before .before .before .before), yes (c .before .before .before .before .before .before .before .before) .few)
 
--- src/lib.rt:389:65
 cast-says : tie.Need-cast-says
 cast-says c = omega (arith, c .before .before .before .before .before .before .before .before .shared-slice-known2 .given 2)
 
--- src/lib.rt:389:51
 add-says : tie.Need-add-says
 add-says c = let y = yes (c .before .before .before .before .before .before .before .before .before .before) in record { fits = omega (arith, y .few, y .early) }
 
--- src/lib.rt:389:43
 says-requires : tie.Need-says-requires
 says-requires c κs = search needs
 
--- src/lib.rt:374:1
 returns : tie.Need-returns
 returns c =
     let a = c .before .before .before .before .before .before .before .args in
@@ -98,11 +73,9 @@ returns c =
     let l = reply-stops (a .r) (a .m .now) (a .out .now) (w .given .0 .0) (sym (ap checkNo (w .given .1)) ∙ c .before .before .before .before .reply-check .ensures) in
     (c .stopped .ensures ∙ l .0, l .1)
 
--- src/lib.rt:374:1
 same-length : tie.Need-same-length
 same-length c = search needs
 
--- src/lib.rt:374:1
 returns-2 : tie.Need-returns-2
 returns-2 c =
     let a = c .before .before .before .before .before .before .before .before .before .before .before .before .before .before .before .before .args in

@@ -1,17 +1,12 @@
-use Rattle.client_reply.specs.Reply.{itemOk, itemValue, itemChainOk, itemChecks, proofChecks, itemsChecks, lastOk, formChecks, replyNo, chainItem, chainTo, chainAfter, sortTo, repliedReplica, commitMessage}
+use Rattle.client_reply.specs.Reply.{sortTo}
 use Rattle.client_reply.specs.Lists.{lists, Full}
-use mathlib.Core.Path.{_≡_, refl, sym, ap, _∙_}
+use mathlib.Core.Path.{_≡_, _∙_}
 use native.Mathlib.Omega.{arith}
-use Prim.Native.Nat.{ℕ, _+_, _-_, _*_, _<_, _≤_}
+use Prim.Native.Nat.{_-_, _≤_}
 use native.Mathlib.Numerals.{add-one}
 use borrow.Author.Needs.{needs}
 use Rattle.client_reply.proofs.sort_to.Statement.{statement}
 use Rattle.client_reply.proofs.sort_to.Tie as tie
-use Rattle.client_reply.proofs.sort_to.Reads as reads
-use Rattle.client_reply.proofs.sort_to.Lts as lts
-use Rattle.client_reply.proofs.item_of.Reads as item-of-reads
-use Rattle.client_reply.proofs.no_lists.Reads as no-lists-reads
-use Rattle.client_reply.proofs.sort_item.Reads as sort-item-reads
 
 abbrev Inv-loop : tie.InvT-loop
 Inv-loop number statuses m n l₀ k₀ l k = (lists l ≡ sortTo number statuses m k) × Full l k × (k ≤ n)
@@ -19,37 +14,29 @@ Inv-loop number statuses m n l₀ k₀ l k = (lists l ≡ sortTo number statuses
 abbrev μ-loop : tie.MeasureT-loop
 μ-loop number statuses m n l₀ k₀ l k = n - k
 
--- src/lib.rt:264:9
 no-lists-requires : tie.Need-no-lists-requires Inv-loop μ-loop
 no-lists-requires c κs = search needs
 
--- src/lib.rt:266:5
 loop-holds : tie.Need-loop-holds Inv-loop μ-loop
 unfolding sortTo
 loop-holds c = (rw (c .no-lists .ensures .0, c .no-lists .ensures .1), record { n = omega arith; m = omega arith }, search needs)
 
--- src/lib.rt:267:13
 item-of-requires : tie.Need-item-of-requires Inv-loop μ-loop
 item-of-requires c κs = search needs
 
--- src/lib.rt:268:9
 sort-item-requires : tie.Need-sort-item-requires Inv-loop μ-loop
 sort-item-requires c κs = search needs
 
--- src/lib.rt:269:9
 add-k : tie.Need-add-k Inv-loop μ-loop
 add-k c = search needs
 
--- src/lib.rt:266:5
 loop-less : tie.Need-loop-less Inv-loop μ-loop
 loop-less c = search needs
 
--- src/lib.rt:266:5
 loop-again : tie.Need-loop-again Inv-loop μ-loop
 unfolding sortTo
 loop-again c = (c .sort-item .ensures .0 ∙ rw (add-one, c .before .before .before .loop .inv .0, c .before .item-of .ensures), c .sort-item .ensures .1, search needs)
 
--- src/lib.rt:260:1
 returns : tie.Need-returns Inv-loop μ-loop
 returns c = let e : c .before .loop .k ≡ c .before .before .before .before .args .n = omega arith in (c .before .loop .inv .0 ∙ rw e, rw (← e) (c .before .loop .inv .1))
 

@@ -3,8 +3,6 @@ use mathlib.Core.Path.{sym}
 use borrow.Author.Needs.{needs}
 use Rattle.replica.proofs.also.Statement.{statement}
 use Rattle.replica.proofs.also.Tie as tie
-use Rattle.replica.proofs.also.Reads as reads
-use Rattle.replica.proofs.also.Lts as lts
 
 enum-known-so-far : tie.Need-enum-known-so-far
 enum-known-so-far c = search needs

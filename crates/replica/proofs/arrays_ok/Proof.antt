@@ -2,10 +2,6 @@ use Rattle.replica.specs.Replica.{arraysOk}
 use borrow.Author.Needs.{needs}
 use Rattle.replica.proofs.arrays_ok.Statement.{statement}
 use Rattle.replica.proofs.arrays_ok.Tie as tie
-use Rattle.replica.proofs.arrays_ok.Reads as reads
-use Rattle.replica.proofs.arrays_ok.Lts as lts
-use Rattle.slices.proofs.each_most.Reads as each-most-reads
-use Rattle.slices.proofs.zero_from.Reads as zero-from-reads
 
 cast-held : tie.Need-cast-held
 cast-held c = search needs

@@ -1,9 +1,6 @@
 use borrow.Author.Needs.{needs}
 use Rattle.replica.proofs.halted.Statement.{statement}
 use Rattle.replica.proofs.halted.Tie as tie
-use Rattle.replica.proofs.halted.Reads as reads
-use Rattle.replica.proofs.halted.Lts as lts
-use Rattle.replica.proofs.halt_number.Reads as halt-number-reads
 
 halt-number-requires : tie.Need-halt-number-requires
 halt-number-requires c κs = search needs

@@ -2,12 +2,6 @@ use Rattle.replica.specs.Replica.{inRange}
 use borrow.Author.Needs.{needs}
 use Rattle.replica.proofs.in_range.Statement.{statement}
 use Rattle.replica.proofs.in_range.Tie as tie
-use Rattle.replica.proofs.in_range.Reads as reads
-use Rattle.replica.proofs.in_range.Lts as lts
-use Rattle.replica.proofs.arrays_ok.Reads as arrays-ok-reads
-use Rattle.operation.proofs.op_ok.Reads as op-ok-reads
-use Rattle.replica.proofs.no_current.Reads as no-current-reads
-use Rattle.replica.proofs.numbers_ok.Reads as numbers-ok-reads
 
 numbers-ok-requires : tie.Need-numbers-ok-requires
 numbers-ok-requires c κs = search needs

@@ -3,8 +3,6 @@ use mathlib.Core.Path.{refl}
 use borrow.Author.Needs.{needs}
 use Rattle.replica.proofs.numbers_ok.Statement.{statement}
 use Rattle.replica.proofs.numbers_ok.Tie as tie
-use Rattle.replica.proofs.numbers_ok.Reads as reads
-use Rattle.replica.proofs.numbers_ok.Lts as lts
 
 cast-last : tie.Need-cast-last
 cast-last c = search needs

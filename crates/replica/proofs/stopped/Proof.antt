@@ -3,10 +3,6 @@ use mathlib.Core.Path.{sym}
 use borrow.Author.Needs.{needs}
 use Rattle.replica.proofs.stopped.Statement.{statement}
 use Rattle.replica.proofs.stopped.Tie as tie
-use Rattle.replica.proofs.stopped.Reads as reads
-use Rattle.replica.proofs.stopped.Lts as lts
-use Rattle.replica.proofs.halted.Reads as halted-reads
-use Rattle.replica.proofs.refused.Reads as refused-reads
 
 enum-known-why : tie.Need-enum-known-why
 enum-known-why c = search needs

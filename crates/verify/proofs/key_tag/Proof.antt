@@ -1,42 +1,31 @@
 use native.Mathlib.Nat.{add-sub-cancel-left}
 use Rattle.replica.specs.Replica.{keyOf}
-use mathlib.Core.Path.{_≡_, refl, sym, ap, _∙_}
+use mathlib.Core.Path.{_∙_}
 use borrow.Author.Needs.{needs}
 use Rattle.verify.proofs.key_tag.Statement.{statement}
 use Rattle.verify.proofs.key_tag.Tie as tie
-use Rattle.verify.proofs.key_tag.Reads as reads
-use Rattle.verify.proofs.key_tag.Lts as lts
-use Rattle.hmac.proofs.tag_of.Reads as tag-of-reads
 
--- src/lib.rt:17:14
 sub-a : tie.Need-sub-a
 sub-a c = search needs
 
--- src/lib.rt:17:13
 mul-a : tie.Need-mul-a
 mul-a c = search needs
 
--- src/lib.rt:18:27
 add-tag-of : tie.Need-add-tag-of
 add-tag-of c = search needs
 
--- src/lib.rt:18:18
 sub-tag-of : tie.Need-sub-tag-of
 sub-tag-of c = search needs
 
--- src/lib.rt:18:18
 part-tag-of-start : tie.Need-part-tag-of-start
 part-tag-of-start c = search needs
 
--- src/lib.rt:18:18
 part-tag-of-end : tie.Need-part-tag-of-end
 part-tag-of-end c = search needs
 
--- src/lib.rt:18:5
 tag-of-requires : tie.Need-tag-of-requires
 tag-of-requires c κs = search needs
 
--- src/lib.rt:13:1
 returns : tie.Need-returns
 unfolding keyOf
 returns c = c .tag-of .ensures ∙ rw add-sub-cancel-left
