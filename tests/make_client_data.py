@@ -10,6 +10,7 @@ from client_run import FIELDS, NAMES, ROOM, book_of, call, image, line, poked
 from cop import ADD, ASIDE, DONE, READ, SET, TAKE, Entry
 from draws import Draws
 
+
 class Script:
     """The records, and the lines that they give. Each call gives the outcome and the bytes written."""
 
@@ -217,6 +218,13 @@ def conflicts(s):
             items.append(item(Entry(count, kind, cell, amount), 1))
             outcome, _ = s.take(0, cop.re_message(items))
         assert outcome[0] == word, (others, own)
+    s.note("Each cell: another's set of it, and of the next one, before an own read")
+    for cell in range(16):
+        for other, word in ((cell, "aside"), ((cell + 1) % 16, "answer")):
+            s.open(0, 1, KEYS)
+            s.make(0, READ, cell, 0)
+            items = [item(Entry(1, SET, other, 9), 2), item(Entry(1, READ, cell, 0), 1)]
+            assert s.take(0, cop.re_message(items))[0][0] == word
 
 
 def refusals_of_making(s):
@@ -598,7 +606,11 @@ def damaged_broadcast(s):
         s.note("The same BR again, and the next")
         s.take(slot, good, to=3)
         s.take(3, good, to=1)
-        s.take(3, br(b.entry, 1, 3, chain_from(book, items)[2]), to=3)
+        after = chain_from(book, items)[2]
+        s.take(3, br(b.entry, 1, 3, after), to=1)
+        s.note("Another entry in place of the next, with the digest of the next and with its own")
+        s.take(3, br(a.entry, 2, 3, after), to=1)
+        s.take(3, br(a.entry, 2, 3, cop.chain_value(value, a.entry, 3, 2)), to=1)
 
 
 def own_statuses(s):
