@@ -1,86 +1,28 @@
 #!/usr/bin/env python3
 """Cases of the conflict test, for the program conflict_cases.
 
-Written from document 01 alone ("Cells and entries", "Conflict"): for each case the expected answer comes from trying
-every choice of the others' operations and every interleaving. Lists too long for that are decided by a search over the
-values that each cell can reach, which is first held to the other way on 3,000 random small cases.
+The expected answer comes from cop.py, which is written from document 01 alone: for each case by trying every choice of
+the others' operations and every interleaving. Lists too long for that are decided by cop.py's search over the values that
+each cell can reach, which is first held to the other way on 3,000 random small cases.
 
   tests/conflict_cases.py          writes crates/conflict_cases/stdin and stdout
   tests/conflict_cases.py --check  says whether they are what it would write
 """
-import itertools, os, random, sys
+import os, random, sys
 
-ADD, TAKE, READ, SET = 1, 2, 3, 4
-
-
-def run(op, cells):
-    """The response, and the cells after the operation."""
-    kind, cell, amount = op
-    held = cells[cell]
-    after = list(cells)
-    if kind == ADD:
-        if held + amount > 255:
-            return 0, cells
-        after[cell] = held + amount
-        return 1, after
-    if kind == TAKE:
-        if held < amount:
-            return 0, cells
-        after[cell] = held - amount
-        return 1, after
-    if kind == READ:
-        return held, cells
-    after[cell] = amount
-    return 1, after
+from cop import ADD, READ, SET, TAKE, Entry, conflict, conflict_by_definition
 
 
-def own_responses(mixed, cells):
-    got = []
-    for mine, op in mixed:
-        response, cells = run(op, cells)
-        if mine:
-            got.append(response)
-    return got
+def entries(ops):
+    return [Entry(1, *op) for op in ops]
 
 
-def brute(cells, others, own):
-    alone = own_responses([(True, op) for op in own], cells)
-    for r in range(len(others) + 1):
-        for kept in itertools.combinations(others, r):
-            for places in itertools.combinations(range(r + len(own)), len(own)):
-                theirs, mine = iter(kept), iter(own)
-                mixed = [(True, next(mine)) if p in places else (False, next(theirs)) for p in range(r + len(own))]
-                if own_responses(mixed, cells) != alone:
-                    return True
-    return False
+def by_definition(cells, others, own):
+    return conflict_by_definition(entries(others), entries(own), tuple(cells))
 
 
-def search(cells, others, own):
-    for cell in range(16):
-        theirs = [op for op in others if op[1] == cell]
-        mine = [op for op in own if op[1] == cell]
-        expected, at = [], list(cells)
-        for op in mine:
-            response, at = run(op, at)
-            expected.append(response)
-        seen, todo = set(), [(0, 0, cells[cell])]
-        while todo:
-            state = todo.pop()
-            if state in seen:
-                continue
-            seen.add(state)
-            i, j, value = state
-            at = [0] * 16
-            at[cell] = value
-            if j < len(mine):
-                response, after = run(mine[j], at)
-                if response != expected[j]:
-                    return True
-                todo.append((i, j + 1, after[cell]))
-            if i < len(theirs):
-                todo.append((i + 1, j, value))
-                todo.append((i + 1, j, run(theirs[i], at)[1][cell]))
-    return False
+def by_search(cells, others, own):
+    return conflict(entries(others), entries(own), tuple(cells))
 
 
 def one(v):
@@ -163,12 +105,12 @@ def main():
     rng = random.Random(2)
     for _ in range(3000):
         case = random_case(rng, 4)
-        assert search(*case) == brute(*case), line(case)
+        assert by_search(*case) == by_definition(*case), line(case)
     given, expected = [], []
     for case in cases():
-        answer = search(*case)
+        answer = by_search(*case)
         if len(case[1]) + len(case[2]) <= 9:
-            assert answer == brute(*case), line(case)
+            assert answer == by_definition(*case), line(case)
         given.append(line(case))
         expected.append("yes" if answer else "no")
     root = os.path.join(os.path.dirname(os.path.abspath(__file__)), "..", "crates", "conflict_cases")
