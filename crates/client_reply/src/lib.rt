@@ -22,11 +22,11 @@ use replica::Stepped;
 use replica::Why;
 
 // The two lists: the first `n` of `others`, the first `m` of `own`.
-pub struct Lists {
-    pub others: [Operation; 32],
-    pub n: usize,
-    pub own: [Operation; 32],
-    pub m: usize,
+struct Lists {
+    others: [Operation; 32],
+    n: usize,
+    own: [Operation; 32],
+    m: usize,
 }
 
 // Item `k` of a reply.
@@ -279,9 +279,9 @@ fn sort_to(number: u8, statuses: [u8; 32], m: &[u8], n: usize) -> Lists
 }
 
 // Whether the current operation is aborted, and its response if not.
-pub struct Verdict {
-    pub aborted: bool,
-    pub response: Response,
+struct Verdict {
+    aborted: bool,
+    response: Response,
 }
 
 fn decide(r: Replica, m: &[u8], n: usize) -> Verdict

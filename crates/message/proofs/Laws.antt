@@ -13,7 +13,7 @@ use borrow.Author.Tests.{leb-true, eqb-true}
 use Rattle.slices.specs.Bytes.{put, bigEndian}
 use Rattle.operation.specs.declared.Operation.{Operation}
 use Rattle.operation.specs.Operation.{opBytes}
-use Rattle.operation.proofs.RoundTrip.{and-left, and-right}
+use Rattle.slices.proofs.Laws.{and-yes}
 use Rattle.message.specs.declared.Item.{Item}
 use Rattle.message.specs.declared.Commit.{Commit}
 use Rattle.message.specs.Readers.{ItemsFit, none, more}
@@ -113,39 +113,39 @@ reply-end out is n h = rw (length-take-le n is h, drop-append-add (82 ∷ 69 ∷
 -- ---- tests
 pub invoke-mark : (m : List ℕ) → isInvoke m ≡ true → marked 73 78 m ≡ true
 unfolding isInvoke
-invoke-mark m e = and-left (marked 73 78 m) _ e
+invoke-mark m e = and-yes (marked 73 78 m) _ e .0
 
 pub invoke-length : (m : List ℕ) → isInvoke m ≡ true → length m ≡ 43
 unfolding isInvoke
-invoke-length m e = eqb-true _ _ (and-right (marked 73 78 m) _ e)
+invoke-length m e = eqb-true _ _ (and-yes (marked 73 78 m) _ e .1)
 
 pub commit-mark : (m : List ℕ) → isCommit m ≡ true → marked 67 79 m ≡ true
 unfolding isCommit
-commit-mark m e = and-left (marked 67 79 m) _ e
+commit-mark m e = and-yes (marked 67 79 m) _ e .0
 
 pub commit-length : (m : List ℕ) → isCommit m ≡ true → length m ≡ 80
 unfolding isCommit
-commit-length m e = eqb-true _ _ (and-right (marked 67 79 m) _ e)
+commit-length m e = eqb-true _ _ (and-yes (marked 67 79 m) _ e .1)
 
 pub broadcast-mark : (m : List ℕ) → isBroadcast m ≡ true → marked 66 82 m ≡ true
 unfolding isBroadcast
-broadcast-mark m e = and-left (marked 66 82 m) _ e
+broadcast-mark m e = and-yes (marked 66 82 m) _ e .0
 
 pub broadcast-length : (m : List ℕ) → isBroadcast m ≡ true → length m ≡ 80
 unfolding isBroadcast
-broadcast-length m e = eqb-true _ _ (and-right (marked 66 82 m) _ e)
+broadcast-length m e = eqb-true _ _ (and-yes (marked 66 82 m) _ e .1)
 
 pub reply-mark : (m : List ℕ) → isReply m ≡ true → marked 82 69 m ≡ true
 unfolding isReply
-reply-mark m e = and-left (marked 82 69 m) _ (and-left _ _ (and-left _ (eqb (length m) (3 + replyCount m * 41)) e))
+reply-mark m e = and-yes (marked 82 69 m) _ (and-yes _ _ (and-yes _ (eqb (length m) (3 + replyCount m * 41)) e .0) .0) .0
 
 pub reply-length : (m : List ℕ) → isReply m ≡ true → length m ≡ 3 + replyCount m * 41
 unfolding isReply
-reply-length m e = eqb-true _ _ (and-right (marked 82 69 m && leb 3 (length m) && leb (replyCount m) 32) _ e)
+reply-length m e = eqb-true _ _ (and-yes (marked 82 69 m && leb 3 (length m) && leb (replyCount m) 32) _ e .1)
 
 pub reply-count : (m : List ℕ) → isReply m ≡ true → replyCount m ≤ 32
 unfolding isReply
-reply-count m e = leb-true _ _ (and-right (marked 82 69 m && leb 3 (length m)) _ (and-left _ (eqb (length m) (3 + replyCount m * 41)) e))
+reply-count m e = leb-true _ _ (and-yes (marked 82 69 m && leb 3 (length m)) _ (and-yes _ (eqb (length m) (3 + replyCount m * 41)) e .0) .1)
 
 -- ---- lengths
 pub op-length : (e : Operation) → length (opBytes e) ≡ 8

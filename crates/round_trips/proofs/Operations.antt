@@ -1,8 +1,8 @@
 -- The eight bytes of an operation and back.
 use Prim.Native.Nat.{ℕ, suc, _+_, _*_, _/_, _%_, _^_, _<_, _≤_}
-use mathlib.Core.Path.{_≡_, refl, sym, ap, _∙_}
+use mathlib.Core.Path.{_≡_, sym, ap, _∙_}
 use mathlib.Core.List.{List, [], _∷_, _++_, append-assoc}
-use mathlib.Core.Bool.{Bool, true, false, _&&_}
+use mathlib.Core.Bool.{true, _&&_}
 use native.Mathlib.Nat.{add-zero, add-assoc, div-one, div-div-eq-div-mul, div-add-mod'}
 use native.Mathlib.Numerals.{add-one, add-two, add-three}
 use native.Mathlib.Omega.{arith}
@@ -10,9 +10,10 @@ use borrow.Author.Tests.{leb-true}
 use lib.Dec.{leb, eqb}
 use lib.ListN.{length, getD, take, drop}
 use lib.Seq.{drop-cons, take-add, drop-drop, getD-append-add}
+use Rattle.slices.proofs.Laws.{and-yes}
 use Rattle.slices.specs.Bytes.{bigEndian, word, wordAt}
 use Rattle.operation.specs.declared.Operation.{Operation}
 use Rattle.operation.specs.Operation.{opBytes, opAt, opOk}
 
 -- ---- four-byte numbers
 joined : (x a b c r₀ r₁ r₂ : ℕ) → a * 256 + r₀ ≡ x → b * 256 + r₁ ≡ a → c * 256 + r₂ ≡ b → c * 16777216 + r₂ * 65536 + r₁ * 256 + r₀ ≡ x
@@ -93,19 +94,11 @@ unfolding opAt
 op-fits s i b = word-fits s i b
 
 -- ---- tests
-pub and-left : (a b : Bool) → (a && b) ≡ true → a ≡ true
-and-left true b e = refl
-and-left false b e = e
-
-pub and-right : (a b : Bool) → (a && b) ≡ true → b ≡ true
-and-right true b e = e
-and-right false b e = absurd (let z : _≡_ {A = ℕ} 0 1 = cc e in omega arith)
-
 -- an allowed operation fits
 pub ok-fits : (e : Operation) → opOk e ≡ true → e .count < 2 ^ 32
 unfolding opOk
 ok-fits e h =
     let n : ℕ = e .count in
-    let c : leb n 1000000 ≡ true = and-right (leb 1 n) _ (and-left (leb 1 n && leb n 1000000) _ (and-left _ (eqb (e .last) 0) h)) in
+    let c : leb n 1000000 ≡ true = and-yes (leb 1 n) _ (and-yes (leb 1 n && leb n 1000000) _ (and-yes _ (eqb (e .last) 0) h .0) .0) .1 in
     let l : n ≤ 1000000 = leb-true n 1000000 c in
     omega arith

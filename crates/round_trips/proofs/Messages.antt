@@ -13,12 +13,13 @@ use borrow.Author.Tests.{eqb-true, le-leb, eq-eqb}
 use Rattle.slices.specs.Bytes.{bigEndian, wordAt}
 use Rattle.operation.specs.declared.Operation.{Operation}
 use Rattle.operation.specs.Operation.{opBytes, opAt}
-use Rattle.operation.proofs.RoundTrip.{word-back, word-write, get-skip, op-skip, op-front, op-read, op-write, op-fits, word-fits, and-left, and-right}
+use Rattle.round_trips.proofs.Operations.{word-back, word-write, get-skip, op-skip, op-front, op-read, op-write, op-fits, word-fits}
+use Rattle.slices.proofs.Laws.{and-yes}
 use Rattle.message.specs.declared.Item.{Item}
 use Rattle.message.specs.declared.Commit.{Commit}
 use Rattle.message.specs.Readers.{ItemFits, CommitFits, ItemsFit, none, more, noItem}
 use Rattle.message.specs.Message.{invokeString, commitString, chainString, itemBytes, itemsBytes, commitFields, invokeBytes, replyBytes, commitBytes, broadcastBytes, marked, isInvoke, isReply, isCommit, isBroadcast, itemAt, commitOf, replyCount, replyItem, replyItems}
 use Rattle.message.proofs.Laws.{items-join, items-more, items-length, invoke-bytes-length, commit-bytes-length, broadcast-bytes-length, reply-bytes-length, commit-tagged, invoke-length, commit-length, broadcast-length, reply-length, invoke-mark, commit-mark, broadcast-mark, reply-mark}
 
 -- ---- what is written is read
 pub item-skip : (xs s : List ℕ) (i : ℕ) → itemAt (xs ++ s) (length xs + i) ≡ itemAt s i
@@ -144,8 +145,8 @@ unfolding marked
 marked-split a b [] e = absurd (let z : _≡_ {A = ℕ} 0 1 = cc e in omega arith)
 marked-split a b (x ∷ []) e = absurd (let z : _≡_ {A = ℕ} 0 1 = cc e in omega arith)
 marked-split a b (x ∷ y ∷ m) e =
-    let h : eqb x a ≡ true = and-right (leb 2 (length (x ∷ y ∷ m))) (eqb x a) (and-left _ (eqb y b) e) in
-    let g : eqb y b ≡ true = and-right (leb 2 (length (x ∷ y ∷ m)) && eqb x a) (eqb y b) e in
+    let h : eqb x a ≡ true = and-yes (leb 2 (length (x ∷ y ∷ m))) (eqb x a) (and-yes _ (eqb y b) e .0) .1 in
+    let g : eqb y b ≡ true = and-yes (leb 2 (length (x ∷ y ∷ m)) && eqb x a) (eqb y b) e .1 in
     rw (eqb-true x a h, eqb-true y b g)
 
 whole : (m : List ℕ) (n : ℕ) → length m ≡ n + 2 → take n (drop 2 m) ≡ drop 2 m

@@ -1,0 +1,5 @@
+pub mod Invoke
+pub mod Broadcast
+pub mod Chain
+pub mod Reply
+pub mod Alone
