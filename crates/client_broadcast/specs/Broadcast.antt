@@ -11,7 +11,7 @@ use Rattle.message.specs.Message.{isBroadcast, commitOf}
 use Rattle.verify.specs.Verify.{commitTagOk, valueAt, linkValue}
 use Rattle.replica.specs.declared.Replica.{Replica}
 use Rattle.replica.specs.Outcome.{confirmed}
-use Rattle.replica.specs.Replica.{After, inRange, every, firstNo, stop}
+use Rattle.replica.specs.Replica.{After, every, firstNo, readyChecks, stop}
 
 -- 21: "entry, author, status allowed?"
 unfoldable pub commitOk : Commit → Bool
@@ -34,7 +34,7 @@ digestOk r k = same (k .digest) (nextValue r k)
 
 -- the checks in their order: 8, 3, 20; 21, 25; 22, 23
 abbrev pub formChecks : Replica → List ℕ → List (Bool × ℕ)
-formChecks r m = (inRange r, 8) ∷ (eqb (r .halt) 0, 3) ∷ (isBroadcast m, 20) ∷ []
+formChecks r m = readyChecks r ++ ((isBroadcast m, 20) ∷ [])
 
 abbrev pub contentChecks : Replica → Commit → List (Bool × ℕ)
 contentChecks r k = (commitOk k, 21) ∷ (seqOk r k, 25) ∷ []

@@ -12,7 +12,6 @@ use replica::Check;
 use replica::Done;
 use replica::Halt;
 use replica::Outcome;
-use replica::Refusal;
 use replica::Replica;
 use replica::Stepped;
 use replica::Why;
@@ -48,13 +47,11 @@ fn next_value(r: Replica, k: Commit) -> [u8; 32]
 fn form_check(r: Replica, m: &[u8]) -> Check
     ensures { λ q. ⌜ checkNo q ≡ firstNo 0 (formChecks r (now (m .entry))) ⌝ }
 {
-    let q = replica::also(
-        Check::Pass,
-        replica::in_range(r),
-        Why::Refuse(Refusal::Range),
-    );
-    let q = replica::also(q, r.halt == 0, Why::Refuse(Refusal::HaltMark));
-    replica::also(q, message::is_broadcast(m), Why::Halt(Halt::Form))
+    replica::also(
+        replica::ready(r),
+        message::is_broadcast(m),
+        Why::Halt(Halt::Form),
+    )
 }
 
 fn content_check(r: Replica, k: Commit) -> Check

@@ -1,6 +1,6 @@
 -- Opening a client and invoking an operation. Document 01, "What a van does" (making an entry) and "The questions, in order".
 use Prim.Native.Nat.{ℕ, _+_}
-use mathlib.Core.List.{List, [], _∷_}
+use mathlib.Core.List.{List, [], _∷_, _++_}
 use mathlib.Core.Bool.{Bool, cond, _&&_}
 use lib.ListN.{length}
 use lib.Dec.{ltb, leb, eqb}
@@ -10,7 +10,7 @@ use Rattle.message.specs.Message.{invokeBytes}
 use Rattle.verify.specs.Verify.{invokeTag}
 use Rattle.replica.specs.declared.Replica.{Replica}
 use Rattle.replica.specs.Outcome.{opened, invoked}
-use Rattle.replica.specs.Replica.{After, Step, stopStep, inRange, noCurrent, firstNo, refuse, freshReplica, zeroReplica}
+use Rattle.replica.specs.Replica.{After, Step, stopStep, noCurrent, firstNo, readyChecks, refuse, freshReplica, zeroReplica}
 
 -- ---- opening: "van number 1 to 8? 1. Exactly 256 key bytes? 2. A refused opening gives an all-zero book."
 unfoldable pub openNo : ℕ → List ℕ → ℕ
@@ -23,16 +23,10 @@ openStep n keys =
     (refuse zeroReplica (openNo n keys))
 
 -- ---- invoking
--- "fields in range? 8 … halt mark clear? 3 … no entry in hand? 4. Kind, cell, amount allowed? 5. Own count below 1,000,000? 6. 43 bytes lent? 7."
+-- after 8 and 3: "no entry in hand? 4. Kind, cell, amount allowed? 5. Own count below 1,000,000? 6. 43 bytes lent? 7."
 abbrev pub invokeChecks : Replica → ℕ → ℕ → ℕ → ℕ → List (Bool × ℕ)
 invokeChecks r kind cell amount room =
-    (inRange r, 8)
-    ∷ (eqb (r .halt) 0, 3)
-    ∷ (noCurrent (r .current), 4)
-    ∷ (allowed kind cell amount, 5)
-    ∷ (ltb (r .count) 1000000, 6)
-    ∷ (leb 43 room, 7)
-    ∷ []
+    readyChecks r ++ ((noCurrent (r .current), 4) ∷ (allowed kind cell amount, 5) ∷ (ltb (r .count) 1000000, 6) ∷ (leb 43 room, 7) ∷ [])
 
 unfoldable pub invokeNo : Replica → ℕ → ℕ → ℕ → ℕ → ℕ
 invokeNo r kind cell amount room = firstNo 0 (invokeChecks r kind cell amount room)

@@ -40,14 +40,9 @@ fn invoke_check(r: Replica, kind: u8, cell: u8, amount: u8, room: usize) -> Chec
     ensures { λ q. ⌜ checkNo q ≡ invokeNo r kind cell amount room ⌝ }
 {
     let current = r.current;
+    let count = r.count;
     let q = replica::also(
-        Check::Pass,
-        replica::in_range(r),
-        Why::Refuse(Refusal::Range),
-    );
-    let q = replica::also(q, r.halt == 0, Why::Refuse(Refusal::HaltMark));
-    let q = replica::also(
-        q,
+        replica::ready(r),
         replica::no_current(current),
         Why::Refuse(Refusal::Current),
     );
@@ -56,7 +51,7 @@ fn invoke_check(r: Replica, kind: u8, cell: u8, amount: u8, room: usize) -> Chec
         operation::is_allowed(kind, cell, amount),
         Why::Refuse(Refusal::Forbidden),
     );
-    let q = replica::also(q, r.count < 1000000, Why::Refuse(Refusal::CountFull));
+    let q = replica::also(q, count < 1000000, Why::Refuse(Refusal::CountFull));
     replica::also(q, 43 <= room, Why::Refuse(Refusal::Room))
 }
 

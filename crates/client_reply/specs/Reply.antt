@@ -13,7 +13,7 @@ use Rattle.message.specs.Message.{isReply, replyCount, replyItem, commitBytes}
 use Rattle.verify.specs.Verify.{itemTagOk, commitTag, valueAt, linkValue}
 use Rattle.replica.specs.declared.Replica.{Replica}
 use Rattle.replica.specs.Outcome.{Told, responded, aborted}
-use Rattle.replica.specs.Replica.{Step, stopStep, inRange, every, firstNo}
+use Rattle.replica.specs.Replica.{Step, stopStep, every, firstNo, readyChecks}
 
 -- ---- the checks
 -- "`RE` lists places c + 1, c + 2 and on": the sequence number of item k, counted from 0
@@ -54,7 +54,7 @@ lastOk r m = every true (leb 1 (replyCount m) ∷ sameOp (lastItem m .op) (r .cu
 
 -- 8, 3, 20, 7
 abbrev pub formChecks : Replica → List ℕ → ℕ → List (Bool × ℕ)
-formChecks r m room = (inRange r, 8) ∷ (eqb (r .halt) 0, 3) ∷ (isReply m, 20) ∷ (leb 80 room, 7) ∷ []
+formChecks r m room = readyChecks r ++ ((isReply m, 20) ∷ (leb 80 room, 7) ∷ [])
 
 abbrev pub lastChecks : Replica → List ℕ → List (Bool × ℕ)
 lastChecks r m = (lastOk r m, 24) ∷ []

@@ -41,12 +41,10 @@ fn form_check(r: Replica, m: &[u8], room: usize) -> Check
     ensures { λ q. ⌜ checkNo q ≡ firstNo 0 (formChecks r (now (m .entry)) room) ⌝ }
 {
     let q = replica::also(
-        Check::Pass,
-        replica::in_range(r),
-        Why::Refuse(Refusal::Range),
+        replica::ready(r),
+        message::is_reply(m),
+        Why::Halt(Halt::Form),
     );
-    let q = replica::also(q, r.halt == 0, Why::Refuse(Refusal::HaltMark));
-    let q = replica::also(q, message::is_reply(m), Why::Halt(Halt::Form));
     replica::also(q, 80 <= room, Why::Refuse(Refusal::Room))
 }
 

@@ -83,6 +83,10 @@ abbrev pub firstNo : ℕ → List (Bool × ℕ) → ℕ
 firstNo n [] = n
 firstNo n (q ∷ qs) = firstNo (alsoNo n q) qs
 
+-- "Every later van call … first: fields in range? 8. … For vans: halt mark clear? 3."
+abbrev pub readyChecks : Replica → List (Bool × ℕ)
+readyChecks r = (inRange r, 8) ∷ (eqb (r .halt) 0, 3) ∷ []
+
 -- ---- a call's result: the replica after it, and what it tells
 pub record After : Type 0 where
   pub replica : Replica

@@ -1,7 +1,7 @@
 // The client's state, the outcomes of its calls, check 8 and checks in order. Definitions: specs/Outcome.antt, specs/Replica.antt.
 ghost use mathlib.Core.Path.{_≡_};
 ghost use Rattle.replica.specs.Outcome.{checkNo, refusalNo, haltNo, whyNo};
-ghost use Rattle.replica.specs.Replica.{freshReplica, noCurrent, numbersOk, arraysOk, inRange, alsoNo, afterOf, refuse, halt, stop};
+ghost use Rattle.replica.specs.Replica.{freshReplica, noCurrent, numbersOk, arraysOk, inRange, alsoNo, firstNo, readyChecks, afterOf, refuse, halt, stop};
 use operation::Operation;
 use operation::Response;
 
@@ -193,4 +193,12 @@ pub fn also(so_far: Check, yes: bool, why: Why) -> Check
         Check::No(w) => Check::No(w),
         Check::Pass => if yes { Check::Pass } else { Check::No(why) },
     }
+}
+
+// Checks 8 and 3, which every call on a replica asks first.
+pub fn ready(r: Replica) -> Check
+    ensures { λ q. ⌜ checkNo q ≡ firstNo 0 (readyChecks r) ⌝ }
+{
+    let q = also(Check::Pass, in_range(r), Why::Refuse(Refusal::Range));
+    also(q, r.halt == 0, Why::Refuse(Refusal::HaltMark))
 }
