@@ -83,7 +83,7 @@ pub fn invoke(r: Replica, kind: u8, cell: u8, amount: u8, out: &mut [u8]) -> Ste
             };
             let keys = r.keys;
             let tag = verify::invoke_tag(keys, e, r.number);
-            message::write_invoke(
+            message_write::write_invoke(
                 out,
                 Item {
                     op: e,

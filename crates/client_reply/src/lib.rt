@@ -362,7 +362,7 @@ fn write_commit(r: Replica, chain: [u8; 1056], n: u8, aborted: bool, out: &mut [
     let status = status_of(aborted);
     let digest = verify::value_at(chain, n as usize);
     let tag = verify::commit_tag(keys, current, r.number, seq, digest, status);
-    message::write_commit(
+    message_write::write_commit(
         out,
         Commit {
             op: current,

@@ -1,12 +1,12 @@
-// The four messages: readers of any bytes, and writers into a lent buffer. Definitions: specs/Message.antt.
+// The four messages: the strings under digest and tag, and readers of any bytes. Definitions: specs/Message.antt.
 use operation::Operation;
 ghost use mathlib.Core.Path.{_≡_};
 ghost use mathlib.Core.List.{[], _∷_, _++_};
-ghost use Prim.Native.Nat.{_+_, _*_, _≤_};
+ghost use Prim.Native.Nat.{_+_, _≤_};
 ghost use lib.ListN.{length, take, drop};
 ghost use Rattle.slices.specs.Bytes.{bigEndian};
 ghost use Rattle.operation.specs.Operation.{opBytes, noOp};
-ghost use Rattle.message.specs.Message.{invokeString, commitString, chainString, itemBytes, commitFields, invokeBytes, replyBytes, commitBytes, broadcastBytes, marked, isInvoke, isReply, isCommit, isBroadcast, itemAt, commitOf};
+ghost use Rattle.message.specs.Message.{invokeString, commitString, chainString, marked, isInvoke, isReply, isCommit, isBroadcast, itemAt, commitOf};
 ghost use Rattle.message.specs.Readers.{noItem, noCommit, readInvoke, readCommit, readBroadcast, readReply};
 
 // An operation with its author and the author's tag: what an invoke carries, and each item of a reply.
@@ -51,7 +51,15 @@ fn head(a: u8, b: u8, e: Operation, author: u8) -> [u8; 11]
 }
 
 // The 48 bytes of a commit or broadcast before the tag.
-fn front(a: u8, b: u8, e: Operation, author: u8, seq: u32, digest: [u8; 32], status: u8) -> [u8; 48]
+pub fn front(
+    a: u8,
+    b: u8,
+    e: Operation,
+    author: u8,
+    seq: u32,
+    digest: [u8; 32],
+    status: u8,
+) -> [u8; 48]
     ensures { λ r. ⌜ r ≡ a ∷ b ∷ opBytes e ++ (author ∷ bigEndian 4 seq) ++ digest ++ (status ∷ []) ⌝ }
 {
     let mut t = [0u8; 48];
@@ -262,76 +270,5 @@ pub fn read_reply(m: &[u8]) -> ReadReply
             ok: false,
             count: 0,
         }
-    }
-}
-
-// Writes an item at `at`.
-pub fn write_item(out: &mut [u8], at: usize, i: Item)
-    requires { ⌜ at + 41 ≤ length (now out) ⌝ }
-    ensures { λ _. ⌜ now (out .exit) ≡ take at (now (out .entry)) ++ itemBytes i ++ drop (at + 41) (now (out .entry)) ⌝ }
-{
-    let o = operation::op_bytes(i.op);
-    let tag = i.tag;
-    slices::copy_to(out, at, &o);
-    slices::copy_to(out, at + 8, &[i.author]);
-    slices::copy_to(out, at + 9, &tag);
-}
-
-// Writes a commit under the mark `a`, `b` at `at`.
-fn write_marked(out: &mut [u8], at: usize, a: u8, b: u8, k: Commit)
-    requires { ⌜ at + 80 ≤ length (now out) ⌝ }
-    ensures { λ _. ⌜ now (out .exit) ≡ take at (now (out .entry)) ++ (a ∷ b ∷ commitFields k) ++ drop (at + 80) (now (out .entry)) ⌝ }
-{
-    let digest = k.digest;
-    let tag = k.tag;
-    let f = front(a, b, k.op, k.author, k.seq, digest, k.status);
-    slices::copy_to(out, at, &f);
-    slices::copy_to(out, at + 48, &tag);
-}
-
-// Writes an invoke.
-pub fn write_invoke(out: &mut [u8], i: Item)
-    requires { ⌜ 43 ≤ length (now out) ⌝ }
-    ensures { λ _. ⌜ now (out .exit) ≡ invokeBytes i ++ drop 43 (now (out .entry)) ⌝ }
-{
-    slices::copy_to(out, 0, &[73, 78]);
-    write_item(out, 2, i);
-}
-
-// Writes a commit.
-pub fn write_commit(out: &mut [u8], k: Commit)
-    requires { ⌜ 80 ≤ length (now out) ⌝ }
-    ensures { λ _. ⌜ now (out .exit) ≡ commitBytes k ++ drop 80 (now (out .entry)) ⌝ }
-{
-    write_marked(out, 0, 67, 79, k);
-}
-
-// Writes a broadcast at `at`.
-pub fn write_broadcast_at(out: &mut [u8], at: usize, k: Commit)
-    requires { ⌜ at + 80 ≤ length (now out) ⌝ }
-    ensures { λ _. ⌜ now (out .exit) ≡ take at (now (out .entry)) ++ broadcastBytes k ++ drop (at + 80) (now (out .entry)) ⌝ }
-{
-    write_marked(out, at, 66, 82, k);
-}
-
-// Writes a broadcast.
-pub fn write_broadcast(out: &mut [u8], k: Commit)
-    requires { ⌜ 80 ≤ length (now out) ⌝ }
-    ensures { λ _. ⌜ now (out .exit) ≡ broadcastBytes k ++ drop 80 (now (out .entry)) ⌝ }
-{
-    write_marked(out, 0, 66, 82, k);
-}
-
-// Writes a reply of the first `n` items.
-pub fn write_reply(out: &mut [u8], items: [Item; 32], n: usize)
-    requires { ⌜ (n ≤ 32) × (3 + n * 41 ≤ length (now out)) ⌝ }
-    ensures { λ _. ⌜ now (out .exit) ≡ replyBytes (take n items) ++ drop (3 + n * 41) (now (out .entry)) ⌝ }
-{
-    slices::copy_to(out, 0, &[82, 69, n as u8]);
-    let mut k = 0;
-    while k < n {
-        let i = items[k];
-        write_item(out, 3 + k * 41, i);
-        k += 1;
     }
 }

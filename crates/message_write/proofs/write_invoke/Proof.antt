@@ -1,7 +1,7 @@
-use Rattle.message.proofs.Laws.{invoke-parts}
+use Rattle.message_write.proofs.Laws.{invoke-parts}
 use borrow.Author.Needs.{needs}
-use Rattle.message.proofs.write_invoke.Statement.{statement}
-use Rattle.message.proofs.write_invoke.Tie as tie
+use Rattle.message_write.proofs.write_invoke.Statement.{statement}
+use Rattle.message_write.proofs.write_invoke.Tie as tie
 
 slice-aggregate-copy-to : tie.Need-slice-aggregate-copy-to
 slice-aggregate-copy-to c = search needs

@@ -1,10 +1,10 @@
 use mathlib.Core.Path.{_≡_}
 use native.Mathlib.Omega.{arith}
 use lib.ListN.{length}
-use Rattle.message.proofs.Laws.{commit-parts}
+use Rattle.message_write.proofs.Laws.{commit-parts}
 use borrow.Author.Needs.{needs}
-use Rattle.message.proofs.write_marked.Statement.{statement}
-use Rattle.message.proofs.write_marked.Tie as tie
+use Rattle.message_write.proofs.write_marked.Statement.{statement}
+use Rattle.message_write.proofs.write_marked.Tie as tie
 
 front-requires : tie.Need-front-requires
 front-requires c κs = search needs

@@ -1,10 +1,10 @@
 use mathlib.Core.Path.{_≡_}
 use native.Mathlib.Omega.{arith}
 use lib.ListN.{length}
-use Rattle.message.proofs.Laws.{item-parts}
+use Rattle.message_write.proofs.Laws.{item-parts}
 use borrow.Author.Needs.{needs}
-use Rattle.message.proofs.write_item.Statement.{statement}
-use Rattle.message.proofs.write_item.Tie as tie
+use Rattle.message_write.proofs.write_item.Statement.{statement}
+use Rattle.message_write.proofs.write_item.Tie as tie
 
 op-bytes-requires : tie.Need-op-bytes-requires
 op-bytes-requires c κs = search needs

@@ -1,7 +1,7 @@
 use Rattle.message.specs.Message.{broadcastBytes}
 use borrow.Author.Needs.{needs}
-use Rattle.message.proofs.write_broadcast_at.Statement.{statement}
-use Rattle.message.proofs.write_broadcast_at.Tie as tie
+use Rattle.message_write.proofs.write_broadcast_at.Statement.{statement}
+use Rattle.message_write.proofs.write_broadcast_at.Tie as tie
 
 write-marked-requires : tie.Need-write-marked-requires
 write-marked-requires c κs = search needs

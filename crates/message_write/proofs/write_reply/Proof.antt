@@ -4,11 +4,11 @@ use mathlib.Core.Path.{_≡_, refl, _∙_}
 use mathlib.Core.List.{[], _++_}
 use native.Mathlib.Omega.{arith}
 use lib.ListN.{length, take, drop}
 use Rattle.message.specs.Message.{itemsBytes}
-use Rattle.message.proofs.Laws.{reply-start, reply-more, reply-end}
+use Rattle.message_write.proofs.Laws.{reply-start, reply-more, reply-end}
 use borrow.Author.Needs.{needs}
-use Rattle.message.proofs.write_reply.Statement.{statement}
-use Rattle.message.proofs.write_reply.Tie as tie
+use Rattle.message_write.proofs.write_reply.Statement.{statement}
+use Rattle.message_write.proofs.write_reply.Tie as tie
 
 abbrev Inv-loop : tie.InvT-loop
 Inv-loop out₀ n items k₀ out k = (out ≡ take 3 out₀ ++ itemsBytes (take k items) ++ drop (3 + k * 41) out₀) × (k ≤ n) × (length out ≡ length out₀)
