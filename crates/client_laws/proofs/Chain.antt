@@ -22,8 +22,9 @@ use Rattle.verify.proofs.Laws.{link-length}
 use Rattle.replica.specs.declared.Replica.{Replica}
 use Rattle.replica.specs.Replica.{firstNo}
 use Rattle.replica.proofs.Laws.{Yes, all-yes, first-append}
-use Rattle.client_reply.specs.Reply.{seqAt, itemValue, itemChainOk, itemChecks, itemsChecks, lastItem, replyNo, chainItem, chainTo, chainAfter}
-use Rattle.client_reply.proofs.Laws.{ItemAllowed, item-allowed, form-yes, reply-formed, items-passed, last-passed, last-yes}
+use Rattle.client_reply.specs.Reply.{chainItem, chainTo, chainAfter}
+use Rattle.client_reply_check.specs.ReplyChecks.{seqAt, itemValue, itemChainOk, itemChecks, itemsChecks, lastItem, replyNo}
+use Rattle.client_reply_check.proofs.Laws.{ItemAllowed, item-allowed, form-yes, reply-formed, items-passed, last-passed, last-yes}
 
 by-test : (a b : ℕ) (t : Bool) → ltb b a ≡ t → (a ≤ b) ⊎ (b < a)
 by-test a b true e = inr (ltb-true b a e)

@@ -16,8 +16,9 @@ use Rattle.message.specs.Message.{replyCount, replyItem}
 use Rattle.replica.specs.declared.Replica.{Replica}
 use Rattle.replica.specs.Replica.{Step, inRange, stopStep}
 use Rattle.replica.proofs.Laws.{ranged, in-range, Sized, Sound, cond-cases, call-cases, stop-sound}
-use Rattle.client_reply.specs.Reply.{itemValue, replyNo, chainTo, chainAfter, isAborted, heldStatus, larger, repliedReplica, replyDone, replyStep}
-use Rattle.client_reply.proofs.Laws.{Formed, form-yes, reply-formed, last-passed, last-yes}
+use Rattle.client_reply.specs.Reply.{chainTo, chainAfter, isAborted, heldStatus, larger, repliedReplica, replyDone, replyStep}
+use Rattle.client_reply_check.specs.ReplyChecks.{itemValue, replyNo}
+use Rattle.client_reply_check.proofs.Laws.{Formed, form-yes, reply-formed, last-passed, last-yes}
 use Rattle.client_laws.proofs.Chain.{le-or-lt, item-value-length, held-item, new-item, chain-length, item-taken}
 
 -- ---- the fields after a reply, whatever the chain, the number of items and the verdict

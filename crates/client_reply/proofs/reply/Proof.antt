@@ -1,6 +1,8 @@
-use Rattle.client_reply.specs.Reply.{replyNo, chainAfter}
+use Rattle.client_reply.specs.Reply.{chainAfter}
+use Rattle.client_reply_check.specs.ReplyChecks.{replyNo}
 use mathlib.Core.Path.{_≡_, refl, sym, ap, _∙_}
-use Rattle.client_reply.proofs.Laws.{Formed, form-yes, reply-formed, last-passed, last-yes, reply-stops, reply-goes, commit-message-length}
+use Rattle.client_reply.proofs.Laws.{reply-stops, reply-goes, commit-message-length}
+use Rattle.client_reply_check.proofs.Laws.{Formed, form-yes, reply-formed, last-passed, last-yes}
 use native.Mathlib.Omega.{arith}
 use Rattle.replica.specs.Outcome.{checkNo}
 use lib.ListN.{length, getD}

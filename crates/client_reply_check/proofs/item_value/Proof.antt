@@ -1,7 +1,7 @@
-use Rattle.client_reply.specs.Reply.{itemValue}
+use Rattle.client_reply_check.specs.ReplyChecks.{itemValue}
 use borrow.Author.Needs.{needs}
-use Rattle.client_reply.proofs.item_value.Statement.{statement}
-use Rattle.client_reply.proofs.item_value.Tie as tie
+use Rattle.client_reply_check.proofs.item_value.Statement.{statement}
+use Rattle.client_reply_check.proofs.item_value.Tie as tie
 
 value-at-requires : tie.Need-value-at-requires
 value-at-requires c κs = search needs

@@ -1,6 +1,6 @@
 use borrow.Author.Needs.{needs}
-use Rattle.client_reply.proofs.form_check.Statement.{statement}
-use Rattle.client_reply.proofs.form_check.Tie as tie
+use Rattle.client_reply_check.proofs.form_check.Statement.{statement}
+use Rattle.client_reply_check.proofs.form_check.Tie as tie
 
 ready-requires : tie.Need-ready-requires
 ready-requires c κs = search needs

@@ -1,8 +1,8 @@
-use Rattle.client_reply.specs.Reply.{itemChainOk}
+use Rattle.client_reply_check.specs.ReplyChecks.{itemChainOk}
 use borrow.Author.Tests.{lt-ltb, le-ltb}
 use borrow.Author.Needs.{needs}
-use Rattle.client_reply.proofs.item_chain_ok.Statement.{statement}
-use Rattle.client_reply.proofs.item_chain_ok.Tie as tie
+use Rattle.client_reply_check.proofs.item_chain_ok.Statement.{statement}
+use Rattle.client_reply_check.proofs.item_chain_ok.Tie as tie
 
 item-value-requires : tie.Need-item-value-requires
 item-value-requires c κs = search needs

@@ -1,14 +1,14 @@
-use Rattle.client_reply.specs.Reply.{itemChecks, itemsChecks}
+use Rattle.client_reply_check.specs.ReplyChecks.{itemChecks, itemsChecks}
 use mathlib.Core.Path.{_≡_, refl, ap, _∙_}
 use native.Mathlib.Omega.{arith}
 use Prim.Native.Nat.{_-_, _≤_}
 use Rattle.replica.specs.Outcome.{checkNo}
 use Rattle.replica.specs.Replica.{firstNo}
-use Rattle.client_reply.proofs.Laws.{items-more}
+use Rattle.client_reply_check.proofs.Laws.{items-more}
 use Rattle.message.specs.declared.Item.{Item}
 use borrow.Author.Needs.{needs}
-use Rattle.client_reply.proofs.items_check.Statement.{statement}
-use Rattle.client_reply.proofs.items_check.Tie as tie
+use Rattle.client_reply_check.proofs.items_check.Statement.{statement}
+use Rattle.client_reply_check.proofs.items_check.Tie as tie
 
 abbrev Inv-loop : tie.InvT-loop
 Inv-loop r m n q₀ k₀ q k = (checkNo q ≡ firstNo 0 (itemsChecks r m k)) × (k ≤ n)

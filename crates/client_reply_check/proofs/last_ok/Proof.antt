@@ -1,7 +1,7 @@
-use Rattle.client_reply.proofs.Laws.{last-goes, last-stops}
+use Rattle.client_reply_check.proofs.Laws.{last-goes, last-stops}
 use borrow.Author.Needs.{needs}
-use Rattle.client_reply.proofs.last_ok.Statement.{statement}
-use Rattle.client_reply.proofs.last_ok.Tie as tie
+use Rattle.client_reply_check.proofs.last_ok.Statement.{statement}
+use Rattle.client_reply_check.proofs.last_ok.Tie as tie
 
 item-of-requires : tie.Need-item-of-requires
 item-of-requires c κs = search needs

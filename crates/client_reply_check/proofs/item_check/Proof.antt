@@ -1,8 +1,8 @@
-use Rattle.client_reply.proofs.Laws.{item-allowed, item-goes, item-stops}
+use Rattle.client_reply_check.proofs.Laws.{item-allowed, item-goes, item-stops}
 use mathlib.Core.Path.{sym, _∙_}
 use borrow.Author.Needs.{needs}
-use Rattle.client_reply.proofs.item_check.Statement.{statement}
-use Rattle.client_reply.proofs.item_check.Tie as tie
+use Rattle.client_reply_check.proofs.item_check.Statement.{statement}
+use Rattle.client_reply_check.proofs.item_check.Tie as tie
 
 item-ok-requires : tie.Need-item-ok-requires
 item-ok-requires c κs = search needs

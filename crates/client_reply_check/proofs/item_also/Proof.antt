@@ -1,9 +1,9 @@
-use Rattle.client_reply.specs.Reply.{itemChecks}
+use Rattle.client_reply_check.specs.ReplyChecks.{itemChecks}
 use mathlib.Core.Path.{sym}
 use Rattle.replica.proofs.Laws.{first-stays, why-not-0}
 use borrow.Author.Needs.{needs}
-use Rattle.client_reply.proofs.item_also.Statement.{statement}
-use Rattle.client_reply.proofs.item_also.Tie as tie
+use Rattle.client_reply_check.proofs.item_also.Statement.{statement}
+use Rattle.client_reply_check.proofs.item_also.Tie as tie
 
 enum-known-so-far : tie.Need-enum-known-so-far
 enum-known-so-far c = search needs

@@ -1,6 +1,6 @@
 use borrow.Author.Needs.{needs}
-use Rattle.client_reply.proofs.item_proof.Statement.{statement}
-use Rattle.client_reply.proofs.item_proof.Tie as tie
+use Rattle.client_reply_check.proofs.item_proof.Statement.{statement}
+use Rattle.client_reply_check.proofs.item_proof.Tie as tie
 
 item-tag-ok-requires : tie.Need-item-tag-ok-requires
 item-tag-ok-requires c κs = search needs

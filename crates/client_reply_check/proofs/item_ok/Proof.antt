@@ -1,7 +1,7 @@
-use Rattle.client_reply.specs.Reply.{itemOk}
+use Rattle.client_reply_check.specs.ReplyChecks.{itemOk}
 use borrow.Author.Needs.{needs}
-use Rattle.client_reply.proofs.item_ok.Statement.{statement}
-use Rattle.client_reply.proofs.item_ok.Tie as tie
+use Rattle.client_reply_check.proofs.item_ok.Statement.{statement}
+use Rattle.client_reply_check.proofs.item_ok.Tie as tie
 
 add-seq : tie.Need-add-seq
 add-seq c = search needs

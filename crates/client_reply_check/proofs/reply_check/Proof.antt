@@ -1,12 +1,12 @@
-use Rattle.client_reply.specs.Reply.{formChecks}
+use Rattle.client_reply_check.specs.ReplyChecks.{formChecks}
 use mathlib.Core.Path.{_≡_, refl, sym, ap, _∙_}
-use Rattle.client_reply.proofs.Laws.{Formed, form-yes, form-stops, rest-decides}
+use Rattle.client_reply_check.proofs.Laws.{Formed, form-yes, form-stops, rest-decides}
 use native.Mathlib.Omega.{arith}
 use Rattle.replica.specs.Outcome.{checkNo}
 use Rattle.replica.specs.Replica.{firstNo}
 use borrow.Author.Needs.{needs}
-use Rattle.client_reply.proofs.reply_check.Statement.{statement}
-use Rattle.client_reply.proofs.reply_check.Tie as tie
+use Rattle.client_reply_check.proofs.reply_check.Statement.{statement}
+use Rattle.client_reply_check.proofs.reply_check.Tie as tie
 
 formed : (c : tie.After-enum-told) → let a = c .before .before .before .before .args in firstNo 0 (formChecks (a .r) (a .m .now) (a .room)) ≡ 0
 formed c = sym (c .before .before .form-check .ensures) ∙ ap checkNo (c .enum-told .given .1)

@@ -1,0 +1,60 @@
+-- The checks of a reply. Document 01, "The questions, in order" (`RE`).
+use Prim.Native.Nat.{ℕ, zero, suc, _+_, _-_}
+use mathlib.Core.List.{List, [], _∷_, _++_}
+use mathlib.Core.Bool.{Bool, true, cond}
+use lib.Dec.{ltb, leb, eqb}
+use Rattle.slices.specs.Bytes.{same}
+use Rattle.operation.specs.Operation.{opOk, sameOp}
+use Rattle.message.specs.declared.Item.{Item}
+use Rattle.message.specs.Message.{isReply, replyCount, replyItem}
+use Rattle.verify.specs.Verify.{itemTagOk, valueAt, linkValue}
+use Rattle.replica.specs.declared.Replica.{Replica}
+use Rattle.replica.specs.Replica.{every, firstNo, readyChecks}
+
+-- ---- the checks
+-- "`RE` lists places c + 1, c + 2 and on": the sequence number of item k, counted from 0
+abbrev pub seqAt : ℕ → ℕ → ℕ
+seqAt c k = c + (k + 1)
+
+-- 21: "entry, author allowed and place at most 1,000,000?"
+unfoldable pub itemOk : ℕ → ℕ → Item → Bool
+itemOk c k i = every true (opOk (i .op) ∷ leb 1 (i .author) ∷ leb (i .author) 8 ∷ leb (seqAt c k) 1000000 ∷ [])
+
+-- the chain value of item k, from the value before it in the chain
+unfoldable pub itemValue : ℕ → ℕ → Item → List ℕ → List ℕ
+itemValue c k i chain = linkValue (valueAt k chain) (i .op) (seqAt c k) (i .author)
+
+-- 23: "Chain the same where held?"
+unfoldable pub itemChainOk : ℕ → ℕ → List ℕ → ℕ → Item → Bool
+itemChainOk c held chain k i = cond (ltb k held) (same (itemValue c k i chain) (valueAt (k + 1) chain)) true
+
+-- "item by item": 21; 22 ("Tag right?"), 23
+abbrev pub proofChecks : Replica → ℕ → Item → List (Bool × ℕ)
+proofChecks r k i = (itemTagOk (r .keys) i, 22) ∷ (itemChainOk (r .confirmed) (r .held) (r .chain) k i, 23) ∷ []
+
+abbrev pub itemChecks : Replica → ℕ → Item → List (Bool × ℕ)
+itemChecks r k i = (itemOk (r .confirmed) k i, 21) ∷ proofChecks r k i
+
+-- those of the first k items
+unfoldable pub itemsChecks : Replica → List ℕ → ℕ → List (Bool × ℕ)
+itemsChecks r m zero = []
+itemsChecks r m (suc k) = itemsChecks r m k ++ itemChecks r k (replyItem m k)
+
+-- the last item
+abbrev pub lastItem : List ℕ → Item
+lastItem m = replyItem m (replyCount m - 1)
+
+-- 24: "After all: n at least 1 and the last item the entry in hand with this author?"
+unfoldable pub lastOk : Replica → List ℕ → Bool
+lastOk r m = every true (leb 1 (replyCount m) ∷ sameOp (lastItem m .op) (r .current) ∷ eqb (lastItem m .author) (r .number) ∷ [])
+
+-- 8, 3, 20, 7
+abbrev pub formChecks : Replica → List ℕ → ℕ → List (Bool × ℕ)
+formChecks r m room = readyChecks r ++ ((isReply m, 20) ∷ (leb 80 room, 7) ∷ [])
+
+abbrev pub lastChecks : Replica → List ℕ → List (Bool × ℕ)
+lastChecks r m = (lastOk r m, 24) ∷ []
+
+-- all of them, in their order
+unfoldable pub replyNo : Replica → List ℕ → ℕ → ℕ
+replyNo r m room = firstNo 0 (formChecks r m room ++ (itemsChecks r m (replyCount m) ++ lastChecks r m))
