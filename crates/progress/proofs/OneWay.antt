@@ -1,6 +1,6 @@
 -- The lines of the eight clients: an operation is on its way up or on its way down, once; and how long messages are. Assumes nothing.
 use Prim.Native.Nat.{ℕ, suc, _+_, _≤_}
-use mathlib.Core.Path.{_≡_, refl, sym, ap, subst, _∙_}
+use mathlib.Core.Path.{_≡_, refl, sym, ap, _∙_}
 use mathlib.Core.Logic.{inl, inr, ⊎-elim}
 use mathlib.Core.List.{List, [], _∷_, List·Memᴰ, List·Memᴰ·not-nil, List·Memᴰ·cases-cons}
 use mathlib.Core.Bool.{true, false, cond, true≢false}
@@ -8,11 +8,11 @@ use lib.ListN.{length}
 use native.Mathlib.Omega.{arith}
 use Rattle.operation.specs.declared.Operation.{Operation}
 use Rattle.operation.specs.Operation.{noOp}
-use Rattle.message.specs.Message.{isInvoke, isReply, isBroadcast, replyCount}
+use Rattle.message.specs.Message.{isInvoke, isReply, isBroadcast}
 use Rattle.message.proofs.Laws as M
 use Rattle.replica.specs.Replica.{noCurrent}
 use Rattle.progress.specs.HonestRuns.{World, Line, start, Action, runFrom}
-use Rattle.progress.proofs.Invariant.{Ghost, Reply, Passed, Downs, Asked, Sent, Ups, Lines}
+use Rattle.progress.proofs.Invariant.{Ghost, Downs, Ups, Lines}
 use Rattle.progress.proofs.Lines.{asked-none, reply-none}
 use Rattle.progress.proofs.Invoking.{no-current, idle}
 use Rattle.progress.proofs.NoHalt.{ghost}
