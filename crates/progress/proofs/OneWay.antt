@@ -14,7 +14,7 @@ use Rattle.replica.specs.Replica.{noCurrent}
 use Rattle.server.specs.declared.Server.{Server}
 use Rattle.progress.specs.HonestRuns.{World, Line, start, Action, runFrom}
 use Rattle.progress.proofs.Invariant.{Ghost, Downs, Asks, Ups, Lines}
-pub use Rattle.progress.proofs.Invariant.{invokes}
+unfoldable pub use Rattle.progress.proofs.Invariant.{invokes}
 use Rattle.progress.proofs.Lines.{asked-none, reply-none, invokes-none}
 pub use Rattle.progress.proofs.Lines.{invoke-counted, other-from}
 use Rattle.progress.proofs.Invoking.{no-current, idle}
