@@ -12,8 +12,9 @@ fn invoke_ok(m: &[u8]) -> bool
     ensures { λ r. ⌜ r ≡ invokeOk (now (m .entry)) ⌝ }
 {
     let r = message::read_invoke(m);
+    let ok = r.ok;
     let i = r.item;
-    r.ok & server::item_ok(i)
+    ok & server::item_ok(i)
 }
 
 // Whether the bytes are a commit whose operation, author and status are allowed.
@@ -21,9 +22,10 @@ fn commit_ok(m: &[u8]) -> bool
     ensures { λ r. ⌜ r ≡ commitOk (now (m .entry)) ⌝ }
 {
     let r = message::read_commit_message(m);
+    let ok = r.ok;
     let k = r.commit;
     let e = k.op;
-    r.ok & (operation::op_ok(e) & (1 <= k.author) & (k.author <= 8) & (k.status <= 1))
+    ok & (operation::op_ok(e) & (1 <= k.author) & (k.author <= 8) & (k.status <= 1))
 }
 
 // The author of an invoke or a commit.

@@ -21,7 +21,7 @@ op-ok-requires c κs = search needs
 returns : tie.Need-returns
 unfolding commitOk readCommit
 returns c =
-    let o = c .before .before .before .before in
+    let o = c .before .before .before in
     let r = o .before .before .before in
     let m = r .before .before .args .m .now in
     rw (o .op-ok .ensures, r .read-commit-message .ensures)

@@ -15,9 +15,9 @@ item-ok-requires c κs = search needs
 returns : tie.Need-returns
 unfolding invokeOk readInvoke
 returns c =
-    let r = c .before .before .before in
+    let r = c .before .before in
     let m = r .before .before .args .m .now in
-    rw (c .before .item-ok .ensures, r .read-invoke .ensures) (read-ok itemOk (isInvoke m) (itemAt m 2) noItem)
+    rw (c .item-ok .ensures, r .read-invoke .ensures) (read-ok itemOk (isInvoke m) (itemAt m 2) noItem)
 
 pub invoke-ok-spec : {M : Type 1} → statement M
 invoke-ok-spec = tie.close (tie.spec read-invoke-requires item-ok-requires returns)
