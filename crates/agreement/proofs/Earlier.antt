@@ -19,7 +19,7 @@ record Cut (w : World) (older : List Event) (v : Event) : Type 0 where
   calls : List Call
   is : runFrom w calls ≡ older ++ (v ∷ [])
 
-not-nil : {A : Type 0} (xs ys : List A) (x : A) → [] ≡ xs ++ (x ∷ ys) → ⊥
+pub not-nil : {A : Type 0} (xs ys : List A) (x : A) → [] ≡ xs ++ (x ∷ ys) → ⊥
 not-nil xs ys x q = (let l = length-append xs (x ∷ ys) in let z : 0 ≡ length (xs ++ (x ∷ ys)) = ap length q in absurd (omega arith))
 
 cut : (calls : List Call) (w : World) (older newer : List Event) (v : Event) → runFrom w calls ≡ older ++ (v ∷ newer) → Cut w older v

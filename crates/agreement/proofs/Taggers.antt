@@ -59,7 +59,7 @@ module _ (keys : List ℕ) (a : ℕ) (s : List ℕ) where
 
 -- ---- the call that tagged it
 -- two strings with their tags
-front-same : (s t x y : List ℕ) → length x ≡ 32 → length y ≡ 32 → s ++ x ≡ t ++ y → s ≡ t
+pub front-same : (s t x y : List ℕ) → length x ≡ 32 → length y ≡ 32 → s ++ x ≡ t ++ y → s ≡ t
 front-same s t x y h g q =
     let a = length-append s x in
     let b = length-append t y in
@@ -67,7 +67,7 @@ front-same s t x y h g q =
     let d : length t ≡ length s = omega arith in
     sym (take-at s x (length s) refl) ∙ ap (take (length s)) q ∙ take-at t y (length s) d
 
-tag-long : (keys : List ℕ) (a : ℕ) (s : List ℕ) → length (tagBy keys a s) ≡ 32
+pub tag-long : (keys : List ℕ) (a : ℕ) (s : List ℕ) → length (tagBy keys a s) ≡ 32
 unfolding tagBy
 tag-long keys a s = hmac-length _ _
 
