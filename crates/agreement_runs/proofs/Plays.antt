@@ -1,22 +1,20 @@
 -- The calls of a run: an operation made, a broadcast confirmed. (Replies: Replies.antt.)
-use Prim.Native.Nat.{ℕ, _+_, _<_, _^_, _≤_}
+use Prim.Native.Nat.{ℕ, _<_, _^_}
 use mathlib.Core.Path.{_≡_, refl, sym, _∙_, ap, subst}
-use mathlib.Core.List.{List, [], _∷_, _++_, List·Memᴰ, List·Memᴰ·head}
+use mathlib.Core.List.{List, [], _∷_, List·Memᴰ}
 use mathlib.Core.Bool.{Bool, true, false, cond, _&&_, true≢false}
-use native.Mathlib.Omega.{arith}
 use lib.Dec.{leb, eqb}
 use lib.ListN.{length, getD, replicate}
 use borrow.Author.Tests.{eq-eqb}
 use Rattle.slices.specs.Bytes.{same}
 use Rattle.slices.proofs.Laws.{and-yes, same-self}
 use Rattle.operation.specs.declared.Operation.{Operation}
-use Rattle.message.specs.declared.Item.{Item}
 use Rattle.message.specs.declared.Commit.{Commit}
 use Rattle.message.specs.Readers.{CommitFits}
-use Rattle.message.specs.Message.{invokeString, commitString, broadcastBytes, marked, isReply, commitOf}
+use Rattle.message.specs.Message.{broadcastBytes, marked, isReply}
 use Rattle.message.proofs.Laws.{reply-mark}
 use Rattle.round_trips.proofs.Messages.{broadcast-yes, broadcast-read}
-use Rattle.verify.specs.Verify.{invokeTag, commitTag, commitTagOk, valueAt}
+use Rattle.verify.specs.Verify.{commitTag, commitTagOk, valueAt}
 use Rattle.verify.proofs.Laws.{commit-tag-length}
 use Rattle.replica.specs.declared.Replica.{Replica}
 use Rattle.replica.specs.Outcome.{opened, confirmed}
@@ -31,9 +29,9 @@ use Rattle.client_laws.proofs.Reply.{reply-sound}
 use Rattle.client_laws.proofs.Broadcast.{broadcast-sound}
 use Rattle.client_laws.proofs.Passes.{broadcast-passes}
 use Rattle.client.specs.Receive.{receiveStep}
-use Rattle.agreement.specs.WholeRuns.{Call, invoke, receive, stepOf, messageOf, start, Event, taken, broadcastString, strings, Carried, broadcastTag, tags, tagBy, Tagged}
+use Rattle.agreement.specs.WholeRuns.{Call, invoke, receive, stepOf, messageOf, start, Event, taken, broadcastString, strings, Carried, broadcastTag, tags}
 use Rattle.agreement.proofs.Steps.{invokedStep}
-use Rattle.agreement_runs.proofs.Shown.{All, none, more, Shows}
+use Rattle.agreement_runs.proofs.Shown.{none, more, Shows}
 
 -- ---- opening
 pub start-is : (keys : List ℕ) (n : ℕ) → openNo n keys ≡ 0 → start keys n ≡ freshReplica n keys
@@ -94,9 +92,6 @@ no-reply : (k : Commit) → isReply (broadcastBytes k) ≡ false
 unfolding marked broadcastBytes
 no-reply k = go (isReply (broadcastBytes k)) refl
   where
-    m : List ℕ
-    m = broadcastBytes k
-
     go : (b : Bool) → isReply (broadcastBytes k) ≡ b → isReply (broadcastBytes k) ≡ false
     go false e = e
     go true e =

@@ -19,7 +19,8 @@ use Rattle.client_laws.proofs.Broadcast.{next-held, next-none, value-first, val
 use Rattle.client_laws.proofs.Passes.{invoke-passes}
 use Rattle.agreement.specs.WholeRuns.{invoke, receive, stepOf}
 use Rattle.agreement_runs.proofs.Plays.{opens, first-value, sound-after, madeEvent, made-step, confirmEvent, confirm-passes, confirm-step}
-use Rattle.agreement_runs.proofs.Replies.{item-passes, replyEvent, reply-step, one-form, one-passes, one-value, two-form, two-passes, two-aborted, two-response, two-first, two-second}
+use Rattle.agreement_runs.proofs.Replies.{item-passes, replyEvent, reply-step}
+use Rattle.agreement_runs.proofs.Items.{one-form, one-passes, one-value, two-form, two-passes, two-aborted, two-response, two-first, two-second}
 use Rattle.agreement_runs.proofs.TwoAuthors.{o₁, o₂, v₁, v₂, i₁, i₂, k₁, k₂, f₁, f₂, g₁, g₂, a₀, a₁, a₂, a₃, b₀, b₁, b₂, b₃}
 
 module _ (keys : List ℕ) (L : length keys ≡ 256) where
@@ -34,26 +35,26 @@ module _ (keys : List ℕ) (L : length keys ≡ 256) where
   pub sa₁ : Sound (a₁ keys)
   sa₁ = sound-after (a₀ keys) (invoke 1 4 0 7 43) sa₀ step₁
 
-  pub passes₁ : replyNo (a₁ keys) (replyBytes ((i₁ keys) ∷ [])) 80 ≡ 0
+  pub passes₁ : replyNo (a₁ keys) (replyBytes (i₁ keys ∷ [])) 80 ≡ 0
   unfolding itemOk opOk allowed sameOp itemChainOk
   passes₁ = one-passes (a₁ keys) (i₁ keys) (f₁ keys) (sa₁ .range) refl (item-passes (a₁ keys) 0 o₁ 1 refl refl) refl refl
 
-  pub step₂ : stepOf (a₁ keys) (receive 1 (replyBytes ((i₁ keys) ∷ [])) 80) ≡ replyEvent 1 (a₁ keys) ((i₁ keys) ∷ []) 1 false 1 .step
+  pub step₂ : stepOf (a₁ keys) (receive 1 (replyBytes (i₁ keys ∷ [])) 80) ≡ replyEvent 1 (a₁ keys) (i₁ keys ∷ []) 1 false 1 .step
   unfolding replyBytes isAborted lastResponse sortTo conflicts interleavings some responses sameResponses responseOn response runAll
-  step₂ = reply-step 1 (a₁ keys) ((i₁ keys) ∷ []) 1 false 1 (one-form (a₁ keys) (i₁ keys) (f₁ keys)) passes₁ refl refl refl
+  step₂ = reply-step 1 (a₁ keys) (i₁ keys ∷ []) 1 false 1 (one-form (a₁ keys) (i₁ keys) (f₁ keys)) passes₁ refl refl refl
 
   sa₂ : Sound (a₂ keys)
-  sa₂ = sound-after (a₁ keys) (receive 1 (replyBytes ((i₁ keys) ∷ [])) 80) sa₁ step₂
+  sa₂ = sound-after (a₁ keys) (receive 1 (replyBytes (i₁ keys ∷ [])) 80) sa₁ step₂
 
   -- the chain: value 0 is zero, value 1 is v₁
   pub a₁-zero : valueAt 0 (a₁ keys .chain) ≡ replicate 32 0
   a₁-zero = first-value
 
-  pub a₂-one : valueAt 1 (chainAfter (a₁ keys) (replyBytes ((i₁ keys) ∷ []))) ≡ v₁
+  pub a₂-one : valueAt 1 (chainAfter (a₁ keys) (replyBytes (i₁ keys ∷ []))) ≡ v₁
   a₂-one = one-value (a₁ keys) (i₁ keys) (f₁ keys) passes₁ (sa₁ .sized) ∙ ap (λ (v : List ℕ). linkValue v o₁ 1 1) a₁-zero
 
-  pub a₂-zero : valueAt 0 (chainAfter (a₁ keys) (replyBytes ((i₁ keys) ∷ []))) ≡ replicate 32 0
-  a₂-zero = values-stay (a₁ keys) (replyBytes ((i₁ keys) ∷ [])) 80 passes₁ (sa₁ .sized .chain) 0 (omega arith) ∙ a₁-zero
+  pub a₂-zero : valueAt 0 (chainAfter (a₁ keys) (replyBytes (i₁ keys ∷ []))) ≡ replicate 32 0
+  a₂-zero = values-stay (a₁ keys) (replyBytes (i₁ keys ∷ [])) 80 passes₁ (sa₁ .sized .chain) 0 (omega arith) ∙ a₁-zero
 
   next₅ : nextValue (a₂ keys) (k₁ keys) ≡ v₁
   unfolding repliedReplica
@@ -88,35 +89,35 @@ module _ (keys : List ℕ) (L : length keys ≡ 256) where
   pub sb₁ : Sound (b₁ keys)
   sb₁ = sound-after (b₀ keys) (invoke 2 3 0 0 43) sb₀ step₃
 
-  pub passes₂ : replyNo (b₁ keys) (replyBytes ((i₁ keys) ∷ (i₂ keys) ∷ [])) 80 ≡ 0
+  pub passes₂ : replyNo (b₁ keys) (replyBytes (i₁ keys ∷ i₂ keys ∷ [])) 80 ≡ 0
   unfolding itemOk opOk allowed sameOp itemChainOk
   passes₂ = two-passes (b₁ keys) (i₁ keys) (i₂ keys) (f₁ keys) (f₂ keys) (sb₁ .range) refl (item-passes (b₁ keys) 0 o₁ 1 refl refl) (item-passes (b₁ keys) 1 o₂ 2 refl refl) refl refl
 
-  aborts : isAborted (b₁ keys) (replyBytes ((i₁ keys) ∷ (i₂ keys) ∷ [])) ≡ true
+  aborts : isAborted (b₁ keys) (replyBytes (i₁ keys ∷ i₂ keys ∷ [])) ≡ true
   unfolding sortItem conflicts interleavings insertions some responses sameResponses responseOn response after value flatMap
   aborts = two-aborted (b₁ keys) (i₁ keys) (i₂ keys) (f₁ keys) (f₂ keys)
 
-  alone : lastResponse (b₁ keys) (replyBytes ((i₁ keys) ∷ (i₂ keys) ∷ [])) ≡ 0
+  alone : lastResponse (b₁ keys) (replyBytes (i₁ keys ∷ i₂ keys ∷ [])) ≡ 0
   unfolding sortItem responseOn response runAll
   alone = two-response (b₁ keys) (i₁ keys) (i₂ keys) (f₁ keys) (f₂ keys)
 
-  pub step₄ : stepOf (b₁ keys) (receive 2 (replyBytes ((i₁ keys) ∷ (i₂ keys) ∷ [])) 80) ≡ replyEvent 2 (b₁ keys) ((i₁ keys) ∷ (i₂ keys) ∷ []) 2 true 0 .step
+  pub step₄ : stepOf (b₁ keys) (receive 2 (replyBytes (i₁ keys ∷ i₂ keys ∷ [])) 80) ≡ replyEvent 2 (b₁ keys) (i₁ keys ∷ i₂ keys ∷ []) 2 true 0 .step
   unfolding replyBytes
-  step₄ = reply-step 2 (b₁ keys) ((i₁ keys) ∷ (i₂ keys) ∷ []) 2 true 0 (two-form (b₁ keys) (i₁ keys) (i₂ keys) (f₁ keys) (f₂ keys)) passes₂ refl aborts alone
+  step₄ = reply-step 2 (b₁ keys) (i₁ keys ∷ i₂ keys ∷ []) 2 true 0 (two-form (b₁ keys) (i₁ keys) (i₂ keys) (f₁ keys) (f₂ keys)) passes₂ refl aborts alone
 
   sb₂ : Sound (b₂ keys)
-  sb₂ = sound-after (b₁ keys) (receive 2 (replyBytes ((i₁ keys) ∷ (i₂ keys) ∷ [])) 80) sb₁ step₄
+  sb₂ = sound-after (b₁ keys) (receive 2 (replyBytes (i₁ keys ∷ i₂ keys ∷ [])) 80) sb₁ step₄
 
   pub b₁-zero : valueAt 0 (b₁ keys .chain) ≡ replicate 32 0
   b₁-zero = first-value
 
-  pub b₂-zero : valueAt 0 (chainAfter (b₁ keys) (replyBytes ((i₁ keys) ∷ (i₂ keys) ∷ []))) ≡ replicate 32 0
-  b₂-zero = values-stay (b₁ keys) (replyBytes ((i₁ keys) ∷ (i₂ keys) ∷ [])) 80 passes₂ (sb₁ .sized .chain) 0 (omega arith) ∙ b₁-zero
+  pub b₂-zero : valueAt 0 (chainAfter (b₁ keys) (replyBytes (i₁ keys ∷ i₂ keys ∷ []))) ≡ replicate 32 0
+  b₂-zero = values-stay (b₁ keys) (replyBytes (i₁ keys ∷ i₂ keys ∷ [])) 80 passes₂ (sb₁ .sized .chain) 0 (omega arith) ∙ b₁-zero
 
-  b₂-one : valueAt 1 (chainAfter (b₁ keys) (replyBytes ((i₁ keys) ∷ (i₂ keys) ∷ []))) ≡ v₁
+  b₂-one : valueAt 1 (chainAfter (b₁ keys) (replyBytes (i₁ keys ∷ i₂ keys ∷ []))) ≡ v₁
   b₂-one = two-first (b₁ keys) (i₁ keys) (i₂ keys) (f₁ keys) (f₂ keys) passes₂ (sb₁ .sized) ∙ ap (λ (v : List ℕ). linkValue v o₁ 1 1) b₁-zero
 
-  pub b₂-two : valueAt 2 (chainAfter (b₁ keys) (replyBytes ((i₁ keys) ∷ (i₂ keys) ∷ []))) ≡ v₂
+  pub b₂-two : valueAt 2 (chainAfter (b₁ keys) (replyBytes (i₁ keys ∷ i₂ keys ∷ []))) ≡ v₂
   b₂-two = two-second (b₁ keys) (i₁ keys) (i₂ keys) (f₁ keys) (f₂ keys) passes₂ (sb₁ .sized) ∙ ap (λ (v : List ℕ). linkValue (linkValue v o₁ 1 1) o₂ 2 2) b₁-zero
 
   next₆ : nextValue (b₂ keys) (k₁ keys) ≡ v₁

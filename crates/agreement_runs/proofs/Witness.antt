@@ -1,23 +1,23 @@
 -- Not empty: with any 256 key bytes, a run that is not let off, in which clients 1 and 2 make an operation each, the second one is aborted,
 -- and both clients confirm both.
-use Prim.Native.Nat.{ℕ, _+_}
-use mathlib.Core.Path.{_≡_, refl, sym, _∙_, ap}
-use mathlib.Core.List.{List, [], _∷_, _++_, map, List·Memᴰ, List·Memᴰ·head, List·Memᴰ·tail}
+use Prim.Native.Nat.{ℕ}
+use mathlib.Core.Path.{_≡_, refl, _∙_, ap}
+use mathlib.Core.List.{List, [], _∷_, map, List·Memᴰ, List·Memᴰ·head, List·Memᴰ·tail}
 use mathlib.Core.Bool.{true, false}
 use lib.ListN.{length, replicate}
 use Rattle.operation.specs.Operation.{value, after, effect}
-use Rattle.message.specs.declared.Commit.{Commit}
-use Rattle.message.specs.Message.{invokeString, commitString, chainString, replyBytes, broadcastBytes, commitOf}
+use Rattle.message.specs.Message.{invokeString, commitString, chainString, replyBytes, broadcastBytes}
 use Rattle.round_trips.proofs.Messages.{broadcast-read}
 use Rattle.verify.specs.Verify.{invokeTag, linkValue}
-use Rattle.replica.specs.Outcome.{Told, invoked, responded, aborted, confirmed}
+use Rattle.replica.specs.Outcome.{invoked, responded, aborted, confirmed}
 use Rattle.client_broadcast.specs.Broadcast.{confirmedReplica}
 use Rattle.client_reply.specs.Reply.{repliedReplica}
-use Rattle.agreement.specs.WholeRuns.{Call, invoke, receive, caller, messageOf, start, update, Event, says, logOf, allOf, taken, Entry, Confirmation, history, entryOf, Carried, tagBy, Tagged, LetOff}
+use Rattle.agreement.specs.WholeRuns.{Call, invoke, receive, caller, messageOf, start, update, Event, says, logOf, allOf, taken, Confirmation, history, entryOf, tagBy, Tagged, LetOff}
 use Rattle.agreement.proofs.Events.{made-wrote}
 use Rattle.agreement_runs.proofs.Shown.{Good, end, next, not-off, Run, done, call, run-is}
 use Rattle.agreement_runs.proofs.Plays.{start-is, opens, madeEvent, made-shows, confirmEvent, confirm-shows}
-use Rattle.agreement_runs.proofs.Replies.{replyEvent, reply-wrote, one-shows, two-shows}
+use Rattle.agreement_runs.proofs.Replies.{replyEvent, reply-wrote}
+use Rattle.agreement_runs.proofs.Items.{one-shows, two-shows}
 use Rattle.agreement_runs.proofs.TwoAuthors.{o₁, o₂, S₁, S₂, v₁, v₂, distinct-digests, i₁, i₂, k₁, k₂, f₁, f₂, g₁, g₂, a₀, a₁, a₂, a₃, b₀, b₁, b₂, b₃}
 use Rattle.agreement_runs.proofs.TwoAuthorsSteps.{sa₁, sb₁, passes₁, passes₂, a₁-zero, a₂-zero, a₂-one, a₃-zero, b₁-zero, b₂-zero, b₂-two, b₃-zero, step₁, step₂, step₃, step₄, step₅, step₆, step₇, step₈}
 
