@@ -3,3 +3,4 @@ pub mod Broadcast
 pub mod Chain
 pub mod Reply
 pub mod Alone
+pub mod Passes

@@ -1,0 +1,10 @@
+pub mod Shown
+pub mod Plays
+pub mod Replies
+pub mod Items
+pub mod TwoAuthors
+pub mod TwoAuthorsSteps
+pub mod Witness
+pub mod ListedEarly
+pub mod ListedEarlySteps
+pub mod InTags

@@ -1,0 +1,1 @@
+// Runs of several clients that show what demand 3 says: see proofs/TwoAuthors.antt and proofs/ListedEarly.antt.
