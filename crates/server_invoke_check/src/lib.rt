@@ -33,14 +33,12 @@ pub fn invoke_check(s: Server, i: Item, room: usize) -> ServerCheck
 {
     let counts = s.counts;
     let e = i.op;
+    let placed = s.placed;
     let last = last_count(counts, i.author);
-    let waiting = (s.placed - s.passed) as usize;
-    let q = server::also(
-        ServerCheck::Pass,
-        is_next(e.count, last),
-        ServerRefusal::Count,
-    );
+    let next = is_next(e.count, last);
+    let waiting = (placed - s.passed) as usize;
+    let q = server::also(ServerCheck::Pass, next, ServerRefusal::Count);
     let q = server::also(q, waiting < 32, ServerRefusal::Pending);
-    let q = server::also(q, s.placed < 1000000, ServerRefusal::Full);
+    let q = server::also(q, placed < 1000000, ServerRefusal::Full);
     server::also(q, 3 + (waiting + 1) * 41 <= room, ServerRefusal::Room)
 }
