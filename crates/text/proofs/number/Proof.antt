@@ -10,25 +10,25 @@ use Rattle.text.proofs.number.Statement.{statement}
 use Rattle.text.proofs.number.Tie as tie
 
 abbrev Inv-loop : tie.InvT-loop
-Inv-loop s v₀ i₀ v i = (numberOf s ≡ restOf v (drop i s)) × (v ≤ 256)
+Inv-loop s cap v₀ i₀ v i = (numberOf cap s ≡ restOf cap v (drop i s)) × (v ≤ cap)
 
 abbrev μ-loop : tie.MeasureT-loop
-μ-loop s v₀ i₀ v i = length s - i
+μ-loop s cap v₀ i₀ v i = length s - i
 
 returns : tie.Need-returns Inv-loop μ-loop
-returns c = sym (number-none _ (c .if1 .taken))
+returns c = sym (number-none _ _ (c .if1 .taken))
 
 loop-holds : tie.Need-loop-holds Inv-loop μ-loop
-loop-holds c = (number-some _ (c .if1 .left), search needs)
+loop-holds c = (number-some _ _ (c .if1 .left), search needs)
 
 shared-slice-read-d : tie.Need-shared-slice-read-d Inv-loop μ-loop
 shared-slice-read-d c = search needs
 
 returns-2 : tie.Need-returns-2 Inv-loop μ-loop
-returns-2 c = sym (c .before .before .before .loop .inv .0 ∙ rest-low _ _ _ (c .before .before .loop-test .taken) (lt-leb _ _ (c .if2 .taken)))
+returns-2 c = sym (c .before .before .before .loop .inv .0 ∙ rest-low _ _ _ _ (c .before .before .loop-test .taken) (lt-leb _ _ (c .if2 .taken)))
 
 returns-3 : tie.Need-returns-3 Inv-loop μ-loop
-returns-3 c = sym (c .before .before .before .before .loop .inv .0 ∙ rest-high _ _ _ (c .before .before .before .loop-test .taken) (lt-leb _ _ (c .if3 .taken)))
+returns-3 c = sym (c .before .before .before .before .loop .inv .0 ∙ rest-high _ _ _ _ (c .before .before .before .loop-test .taken) (lt-leb _ _ (c .if3 .taken)))
 
 longer-requires : tie.Need-longer-requires Inv-loop μ-loop
 longer-requires c κs = search needs
@@ -45,13 +45,13 @@ loop-again c =
     let k = c .before .before .before .before .before in
     let s = k .before .before .before .args .s .now in (
       k .loop .inv .0
-          ∙ rest-go _ _ _ (c .before .before .before .before .loop-test .taken) (le-leb _ _ (c .before .before .if2 .left)) (le-leb _ _ (c .before .if3 .left))
-          ∙ ap (λ (n : ℕ). restOf n (drop (k .loop .i + 1) s)) (sym e),
+          ∙ rest-go _ _ _ _ (c .before .before .before .before .loop-test .taken) (le-leb _ _ (c .before .before .if2 .left)) (le-leb _ _ (c .before .if3 .left))
+          ∙ ap (λ (n : ℕ). restOf (k .before .before .before .args .cap) n (drop (k .loop .i + 1) s)) (sym e),
       omega (arith, e),
     )
 
 returns-4 : tie.Need-returns-4 Inv-loop μ-loop
-returns-4 c = sym (c .before .loop .inv .0 ∙ rest-end _ _ _ (c .loop-test .left) (c .before .loop .inv .1))
+returns-4 c = sym (c .before .loop .inv .0 ∙ rest-end _ _ _ _ (c .loop-test .left) (c .before .loop .inv .1))
 
 pub number-spec : {M : Type 1} → statement M
 number-spec =
