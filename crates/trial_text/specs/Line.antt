@@ -37,18 +37,15 @@ words (c ∷ cs) = cond (eqb c 32) ([] ∷ words cs) (onFirst c (words cs))
 abbrev pub value : List ℕ → ℕ
 value w = numberOf 256 w
 
-abbrev pub isVan : ℕ → Bool
-isVan v = leb 1 v && leb v 8
-
 -- "A line of another form, or with a van not 1 to 8 or a number above 255"; `I` is byte 73, `D` byte 68
 unfoldable pub fromWords : List (List ℕ) → Asked
 fromWords [] = other
 fromWords (w ∷ []) = other
-fromWords (w ∷ v ∷ []) = cond (same w (68 ∷ []) && isVan (value v)) (deliver (value v)) other
+fromWords (w ∷ v ∷ []) = cond (same w (68 ∷ []) && leb 1 (value v) && leb (value v) 8) (deliver (value v)) other
 fromWords (w ∷ v ∷ k ∷ []) = other
 fromWords (w ∷ v ∷ k ∷ c ∷ []) = other
 fromWords (w ∷ v ∷ k ∷ c ∷ a ∷ []) =
-    cond (same w (73 ∷ []) && isVan (value v) && leb (value k) 255 && leb (value c) 255 && leb (value a) 255)
+    cond (same w (73 ∷ []) && leb 1 (value v) && leb (value v) 8 && leb (value k) 255 && leb (value c) 255 && leb (value a) 255)
     (invoke (value v) (value k) (value c) (value a))
     other
 fromWords (w ∷ v ∷ k ∷ c ∷ a ∷ x ∷ ws) = other
