@@ -4,7 +4,7 @@ other, and what the document says of whole runs, on drawn schedules. `python3 te
 import cop
 from cop import ADD, READ, SET, TAKE, Entry
 from draws import Draws
-from trial import KEYS, VANS, Trial, run
+from trial import KEYS, VANS, Trial, lines_of, run
 
 
 def cells_with(value, cell=0):
@@ -73,12 +73,13 @@ LISTING = """\
 
 
 def trial_listing():
-    lines = ["I 1 4 0 7", "D 1", "D 1", "D 2", "I 2 1 0 3", "I 1 2 0 5", "D 1", "I 1 2 0 4", "D 1"]
-    assert "\n".join(run(lines)) == LISTING
+    data = b"I 1 4 0 7\nD 1\nD 1\nD 2\nI 2 1 0 3\nI 1 2 0 5\nD 1\nI 1 2 0 4\nD 1"
+    assert "\n".join(run(lines_of(data))) == LISTING
+    assert run(lines_of(data + b"\n")) == run(lines_of(data)) and lines_of(b"") == [] and lines_of(b"\n") == [b""]
 
 
 def trial_words():
-    assert run(["I 1 5 0 0", "I 9 1 0 0", "D 1", "D 0", "I 1 1 0 256", "X", "", "I 1 1 0  0", "D 1 "]) == [
+    assert run([b"I 1 5 0 0", b"I 9 1 0 0", b"D 1", b"D 0", b"I 1 1 0 256", b"X", b"", b"I 1 1 0  0", b"D 1 "]) == [
         "1 1 no 5",
         "2 0 bad",
         "3 1 empty",
@@ -90,12 +91,12 @@ def trial_words():
         "9 0 bad",
     ]
     # Van 2's `RE` is not delivered, so places fill up: the 33rd `IN` is refused and offered again.
-    lines = ["I 2 1 0 0"] + ["I 1 1 1 0", "D 1"] * 31 + ["I 1 1 1 0", "I 1 1 1 0", "D 2", "D 1", "D 2"]
+    lines = [b"I 2 1 0 0"] + [b"I 1 1 1 0", b"D 1"] * 31 + [b"I 1 1 1 0", b"I 1 1 1 0", b"D 2", b"D 1", b"D 2"]
     printed = run(lines)
     assert printed[62].split() == ["63", "1", "answer", "32", "1"]
     assert printed[63:] == ["64 1 no 33", "65 1 no 4", "66 2 answer 1 1", "67 1 confirm 1 1", "68 2 confirm 1 1"]
     # Vans 2 to 8 take nothing: after 256 places passed on, an `I` gives `full` until each took one.
-    lines = ["I 1 1 0 0", "D 1", "D 1"] * 256 + ["I 1 1 0 0"] + ["D %d" % van for van in range(2, 9)] + ["I 1 1 0 0"]
+    lines = [b"I 1 1 0 0", b"D 1", b"D 1"] * 256 + [b"I 1 1 0 0"] + [b"D %d" % van for van in range(2, 9)] + [b"I 1 1 0 0"]
     printed = run(lines)
     assert printed[768:770] == ["769 1 full", "770 2 confirm 1 1"] and printed[-1] == "777 1 placed 257"
 

@@ -9,6 +9,7 @@ import cop
 KEYS = b"".join(bytes([van]) * 32 for van in range(1, 9))  # "Van j's key is 32 bytes of value j."
 VANS = range(1, 9)
 ROOM = bytes(32 * 80)  # enough out bytes for every call
+LONGEST = 65535  # bytes of a line, without its line feed; a longer one is of another form
 
 
 class Trial:
@@ -63,20 +64,27 @@ class Trial:
         return any(sum(m[:2] == b"BR" for m in line) >= 256 for line in self.to_van.values())
 
     def line(self, text):
-        """What one line of input gives: the van, and the outcome's word and data."""
+        """What one line of input, in bytes, gives: the van, and the outcome's word and data."""
         self.offer_again()
-        words = text.split(" ")
-        digits = all(re.fullmatch("[0-9]+", word) for word in words[1:])
-        if not (digits and (words[0], len(words)) in (("I", 5), ("D", 2))):
+        words = text.split(b" ")
+        if len(text) > LONGEST or (words[0], len(words)) not in ((b"I", 5), (b"D", 2)):
             return 0, ("bad",)
-        numbers = [int(word) for word in words[1:]]
+        if not all(re.fullmatch(rb"0*[0-9]{1,3}", word) for word in words[1:]):
+            return 0, ("bad",)
+        numbers = [int(word[-3:]) for word in words[1:]]
         if numbers[0] not in VANS or max(numbers) > 255:
             return 0, ("bad",)
-        if words[0] == "D":
+        if words[0] == b"D":
             return numbers[0], self.deliver(*numbers)
         if self.full():
             return numbers[0], ("full",)
         return numbers[0], self.make(*numbers)
+
+
+def lines_of(data):
+    """The lines of an input in bytes. A last one without a line feed counts if it has a byte."""
+    lines = data.split(b"\n")
+    return lines if lines[-1] else lines[:-1]
 
 
 def run(lines):
@@ -89,6 +97,5 @@ def run(lines):
 
 
 if __name__ == "__main__":
-    text = sys.stdin.read()
-    for line in run(text[:-1].split("\n") if text.endswith("\n") else text.split("\n") if text else []):
+    for line in run(lines_of(sys.stdin.buffer.read())):
         print(line)
