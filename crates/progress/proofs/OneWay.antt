@@ -11,21 +11,20 @@ use Rattle.operation.specs.Operation.{noOp}
 use Rattle.message.specs.Message.{isInvoke, isReply, isBroadcast}
 use Rattle.message.proofs.Laws as M
 use Rattle.replica.specs.Replica.{noCurrent}
+use Rattle.server.specs.declared.Server.{Server}
 use Rattle.progress.specs.HonestRuns.{World, Line, start, Action, runFrom}
-use Rattle.progress.proofs.Invariant.{Ghost, Downs, Ups, Lines}
-use Rattle.progress.proofs.Lines.{asked-none, reply-none}
+use Rattle.progress.proofs.Invariant.{Ghost, Downs, Asks, Ups, Lines}
+unfoldable pub use Rattle.progress.proofs.Invariant.{invokes}
+use Rattle.progress.proofs.Lines.{asked-none, reply-none, invokes-none}
+pub use Rattle.progress.proofs.Lines.{invoke-counted, other-from}
 use Rattle.progress.proofs.Invoking.{no-current, idle}
 use Rattle.progress.proofs.NoHalt.{ghost}
 use Rattle.progress.proofs.Reached.{client}
 
--- how many replies, and how many invokes, stand in a line
+-- how many replies stand in a line
 unfoldable pub replies : Line → ℕ
 replies [] = 0
 replies (m ∷ d) = cond (isReply m) (suc (replies d)) (replies d)
-
-unfoldable pub invokes : Line → ℕ
-invokes [] = 0
-invokes (m ∷ u) = cond (isInvoke m) (suc (invokes u)) (invokes u)
 
 pub reply-counted : (m : List ℕ) (d : Line) → isReply m ≡ true → replies (m ∷ d) ≡ suc (replies d)
 unfolding replies
@@ -35,60 +34,59 @@ pub other-to : (m : List ℕ) (d : Line) → isReply m ≡ false → replies (m 
 unfolding replies
 other-to m d e = rw e
 
-pub invoke-counted : (m : List ℕ) (u : Line) → isInvoke m ≡ true → invokes (m ∷ u) ≡ suc (invokes u)
-unfolding invokes
-invoke-counted m u e = rw e
-
-pub other-from : (m : List ℕ) (u : Line) → isInvoke m ≡ false → invokes (m ∷ u) ≡ invokes u
-unfolding invokes
-other-from m u e = rw e
-
 -- ---- lines as the invariant has them
-ups-none : (g : Ghost) (u : Line) → Ups g noOp u → invokes u ≡ 0
-unfolding invokes
-ups-none g [] U = refl
-ups-none g (m ∷ u) (inl (a, U)) = absurd (asked-none g m a)
-ups-none g (m ∷ u) (inr (s, U)) = other-from m u (s .other) ∙ ups-none g u U
+asks-one : (g : Ghost) (n : ℕ) (h : Operation) (u : Line) → Asks g n h u → invokes u ≤ 1
+asks-one g n h [] U = let z = invokes-none in omega arith
+asks-one g n h (m ∷ u) (a, e) = let x = invoke-counted m u (a .form) in let y : invokes u ≡ 0 = ap invokes e ∙ invokes-none in omega arith
 
-ups-one : (g : Ghost) (h : Operation) (u : Line) → Ups g h u → invokes u ≤ 1
-unfolding invokes
-ups-one g h [] U = omega arith
-ups-one g h (m ∷ u) (inl (a, U)) = let x = invoke-counted m u (a .form) in let y = ups-none g u U in omega arith
-ups-one g h (m ∷ u) (inr (s, U)) = let x = other-from m u (s .other) in let y = ups-one g h u U in omega arith
+asks-none : (g : Ghost) (n : ℕ) (u : Line) → Asks g n noOp u → invokes u ≡ 0
+asks-none g n [] U = invokes-none
+asks-none g n (m ∷ u) (a, e) = absurd (asked-none g n m a)
 
-downs-none : (g : Ghost) (n b c : ℕ) (d : Line) → Downs g n b noOp c d → replies d ≡ 0
+ups-one : (g : Ghost) (sv : Server) (n : ℕ) (h : Operation) (u : Line) → Ups g sv n h u → invokes u ≤ 1
+ups-one g sv n h [] U = let z = invokes-none in omega arith
+ups-one g sv n h (m ∷ u) (inl U) = asks-one g n h (m ∷ u) U
+ups-one g sv n h (m ∷ u) (inr (s, U)) = let x = other-from m u (s .other) in let y = asks-one g n h u U in omega arith
+
+ups-none : (g : Ghost) (sv : Server) (n : ℕ) (u : Line) → Ups g sv n noOp u → invokes u ≡ 0
+ups-none g sv n [] U = invokes-none
+ups-none g sv n (m ∷ u) (inl (a, e)) = absurd (asked-none g n m a)
+ups-none g sv n (m ∷ u) (inr (s, U)) = other-from m u (s .other) ∙ asks-none g n u U
+
+downs-none : (g : Ghost) (sv : Server) (n b c : ℕ) (d : Line) → Downs g sv n b noOp c d → replies d ≡ 0
 unfolding replies
-downs-none g n b c [] D = refl
-downs-none g n b c (m ∷ d) (inl (r, D)) = absurd (reply-none g n c m r)
-downs-none g n b c (m ∷ d) (inr (p, D)) = other-to m d (p .other) ∙ downs-none g n b (suc c) d D
+downs-none g sv n b c [] D = refl
+downs-none g sv n b c (m ∷ d) (inl (r, D)) = absurd (reply-none g sv n c m r)
+downs-none g sv n b c (m ∷ d) (inr (p, D)) = other-to m d (p .other) ∙ downs-none g sv n b (suc c) d D
 
-downs-one : (g : Ghost) (n b : ℕ) (h : Operation) (c : ℕ) (d : Line) → Downs g n b h c d → replies d ≤ 1
+downs-one : (g : Ghost) (sv : Server) (n b : ℕ) (h : Operation) (c : ℕ) (d : Line) → Downs g sv n b h c d → replies d ≤ 1
 unfolding replies
-downs-one g n b h c [] D = omega arith
-downs-one g n b h c (m ∷ d) (inl (r, D)) = let x = reply-counted m d (r .form) in let y = downs-none g n b c d D in omega arith
-downs-one g n b h c (m ∷ d) (inr (p, D)) = let x = other-to m d (p .other) in let y = downs-one g n b h (suc c) d D in omega arith
+downs-one g sv n b h c [] D = omega arith
+downs-one g sv n b h c (m ∷ d) (inl (r, D)) = let x = reply-counted m d (r .form) in let y = downs-none g sv n b c d D in omega arith
+downs-one g sv n b h c (m ∷ d) (inr (p, D)) = let x = other-to m d (p .other) in let y = downs-one g sv n b h (suc c) d D in omega arith
 
-lines-one : (g : Ghost) (n b : ℕ) (h : Operation) (c : ℕ) (u d : Line) → Lines g n b h c u d → replies d + invokes u ≤ 1
-lines-one g n b h c u d (inl (U, D)) = let x = ups-one g h u U in let y = downs-none g n b c d D in omega arith
-lines-one g n b h c u d (inr (U, D)) = let x = ups-none g u U in let y = downs-one g n b h c d D in omega arith
+lines-one : (g : Ghost) (sv : Server) (n b : ℕ) (h : Operation) (c : ℕ) (u d : Line) → Lines g sv n b h c u d → replies d + invokes u ≤ 1
+lines-one g sv n b h c u d (inl (U, D)) = let x = ups-one g sv n h u U in let y = downs-none g sv n b c d D in omega arith
+lines-one g sv n b h c u d (inr (U, D)) =
+    let x : invokes u ≡ 0 = ap invokes U ∙ invokes-none in let y = downs-one g sv n b h c d D in omega arith
 
 -- a message that is no reply is a broadcast
-downs-passed : (g : Ghost) (n b : ℕ) (h : Operation) (c : ℕ) (d : Line) → Downs g n b h c d → (m : List ℕ) → List·Memᴰ m d → isReply m ≡ false → isBroadcast m ≡ true
-downs-passed g n b h c [] D m i e = absurd (List·Memᴰ·not-nil i)
-downs-passed g n b h c (x ∷ d) (inl (r, D)) m i e =
+downs-passed : (g : Ghost) (sv : Server) (n b : ℕ) (h : Operation) (c : ℕ) (d : Line) → Downs g sv n b h c d → (m : List ℕ) → List·Memᴰ m d → isReply m ≡ false → isBroadcast m ≡ true
+downs-passed g sv n b h c [] D m i e = absurd (List·Memᴰ·not-nil i)
+downs-passed g sv n b h c (x ∷ d) (inl (r, D)) m i e =
     ⊎-elim
     (λ (q : m ≡ x). absurd (true≢false (sym (r .form) ∙ sym (ap isReply q) ∙ e)))
-    (λ (j : List·Memᴰ m d). downs-passed g n b noOp c d D m j e)
+    (λ (j : List·Memᴰ m d). downs-passed g sv n b noOp c d D m j e)
     (List·Memᴰ·cases-cons i)
-downs-passed g n b h c (x ∷ d) (inr (p, D)) m i e =
+downs-passed g sv n b h c (x ∷ d) (inr (p, D)) m i e =
     ⊎-elim
     (λ (q : m ≡ x). ap isBroadcast q ∙ p .form)
-    (λ (j : List·Memᴰ m d). downs-passed g n b h (suc c) d D m j e)
+    (λ (j : List·Memᴰ m d). downs-passed g sv n b h (suc c) d D m j e)
     (List·Memᴰ·cases-cons i)
 
-lines-passed : (g : Ghost) (n b : ℕ) (h : Operation) (c : ℕ) (u d : Line) → Lines g n b h c u d → (m : List ℕ) → List·Memᴰ m d → isReply m ≡ false → isBroadcast m ≡ true
-lines-passed g n b h c u d (inl (U, D)) = downs-passed g n b noOp c d D
-lines-passed g n b h c u d (inr (U, D)) = downs-passed g n b h c d D
+lines-passed : (g : Ghost) (sv : Server) (n b : ℕ) (h : Operation) (c : ℕ) (u d : Line) → Lines g sv n b h c u d → (m : List ℕ) → List·Memᴰ m d → isReply m ≡ false → isBroadcast m ≡ true
+lines-passed g sv n b h c u d (inl (U, D)) = downs-passed g sv n b noOp c d D
+lines-passed g sv n b h c u d (inr (U, D)) = downs-passed g sv n b h c d D
 
 -- ---- in every world of a run
 module _ (keys : List ℕ) (l : length keys ≡ 256) (n : ℕ) (low : 1 ≤ n) (high : n ≤ 8) (actions : List Action) where
@@ -98,7 +96,7 @@ module _ (keys : List ℕ) (l : length keys ≡ 256) (n : ℕ) (low : 1 ≤ n) (
   -- at most one invoke is on its way up or one reply on its way down, and none where no operation is current
   pub one-way : replies (w .down n) + invokes (w .up n) ≤ 1
   one-way =
-      lines-one (ghost keys actions) n (w .server .passed) (w .replica n .current) (w .replica n .confirmed) (w .up n) (w .down n)
+      lines-one (ghost keys actions) (w .server) n (w .server .passed) (w .replica n .current) (w .replica n .confirmed) (w .up n) (w .down n)
       (client keys l n low high actions .lines)
 
   pub none-current : noCurrent (w .replica n .current) ≡ true → replies (w .down n) + invokes (w .up n) ≡ 0
@@ -106,15 +104,15 @@ module _ (keys : List ℕ) (l : length keys ≡ 256) (n : ℕ) (low : 1 ≤ n) (
       let g = ghost keys actions in
       let r = w .replica n in
       let b = w .server .passed in
-      let L = idle g n b (r .current) (r .confirmed) (w .up n) (w .down n) (no-current (r .current) e) (client keys l n low high actions .lines) in
-      let x = ups-none g (w .up n) (L .0) in
-      let y = downs-none g n b (r .confirmed) (w .down n) (L .1) in
+      let L = idle g (w .server) n b (r .current) (r .confirmed) (w .up n) (w .down n) (no-current (r .current) e) (client keys l n low high actions .lines) in
+      let x = ups-none g (w .server) n (w .up n) (L .0) in
+      let y = downs-none g (w .server) n b (r .confirmed) (w .down n) (L .1) in
       omega arith
 
   -- a message to a client is a reply or a broadcast
   pub to-broadcast : (m : List ℕ) → List·Memᴰ m (w .down n) → isReply m ≡ false → isBroadcast m ≡ true
   to-broadcast =
-      lines-passed (ghost keys actions) n (w .server .passed) (w .replica n .current) (w .replica n .confirmed) (w .up n) (w .down n)
+      lines-passed (ghost keys actions) (w .server) n (w .server .passed) (w .replica n .current) (w .replica n .confirmed) (w .up n) (w .down n)
       (client keys l n low high actions .lines)
 
   pub to-80 : (m : List ℕ) → List·Memᴰ m (w .down n) → isReply m ≡ false → length m ≡ 80

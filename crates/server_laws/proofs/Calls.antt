@@ -1,10 +1,10 @@
 -- Every call of the server keeps check 8 and the lengths of its arrays. Assumes nothing.
-use Prim.Native.Nat.{ℕ, _-_, _<_}
+use Prim.Native.Nat.{ℕ, zero, suc, _-_, _<_}
 use mathlib.Core.Path.{_≡_, refl}
 use mathlib.Core.List.{List}
 use mathlib.Core.Bool.{true}
 use lib.Dec.{leb}
-use lib.ListN.{length, length-take, length-drop, length-replicate}
+use lib.ListN.{length, length-take, length-drop, length-replicate, getD, replicate}
 use native.Mathlib.Omega.{arith}
 use Rattle.slices.specs.Bytes.{isZero}
 use Rattle.slices.proofs.Laws.{all-replicate}
@@ -13,7 +13,7 @@ use Rattle.message.specs.Message.{isInvoke, itemAt, commitOf}
 use Rattle.message.proofs.Laws.{invoke-length}
 use Rattle.round_trips.proofs.Operations.{ok-fits}
 use Rattle.server.specs.declared.Server.{Server}
-use Rattle.server.specs.Server.{freshServer, passedStep, pending, itemOk, slotOf, dueCount, storedServer, placedStep, committedStep, serverStep}
+use Rattle.server.specs.Server.{freshServer, lastCount, passedStep, pending, itemOk, slotOf, dueCount, storedServer, placedStep, committedStep, serverStep}
 use Rattle.server.specs.Server as Sv
 use Rattle.server_laws.proofs.Slots.{leading-few}
 use Rattle.server_laws.proofs.State.{Sizes}
@@ -50,6 +50,14 @@ fresh-sound =
       sizes = fresh-sizes;
     }
 
+get-replicate : (n k x : ℕ) → getD (replicate n x) k x ≡ x
+get-replicate zero k x = refl
+get-replicate (suc n) zero x = refl
+get-replicate (suc n) (suc k) x = get-replicate n k x
+
+pub fresh-count : (n : ℕ) → lastCount freshServer n ≡ 0
+fresh-count n = get-replicate 8 (n - 1) 0
+
 -- ---- the call
 tag-long : (m : List ℕ) → length m ≡ 43 → length (itemAt m 2 .tag) ≡ 32
 unfolding itemAt
@@ -58,7 +66,7 @@ tag-long m l = simp (length-take, length-drop) (omega arith)
 item-fits : (m : List ℕ) → isInvoke m ≡ true → itemOk (itemAt m 2) ≡ true → ItemFits (itemAt m 2)
 item-fits m e h = record { count = ok-fits (itemAt m 2 .op) (item-count (itemAt m 2) h); tag = tag-long m (invoke-length m e) }
 
-commit-long : (m : List ℕ) → length m ≡ 80 → (length (commitOf m .digest) ≡ 32) × (length (commitOf m .tag) ≡ 32)
+pub commit-long : (m : List ℕ) → length m ≡ 80 → (length (commitOf m .digest) ≡ 32) × (length (commitOf m .tag) ≡ 32)
 unfolding commitOf
 commit-long m l = (simp (length-take, length-drop) (omega arith), simp (length-take, length-drop) (omega arith))
 

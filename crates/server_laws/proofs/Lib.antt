@@ -4,3 +4,4 @@ pub mod Checks
 pub mod Range
 pub mod Sound
 pub mod Calls
+pub mod Awaiting
