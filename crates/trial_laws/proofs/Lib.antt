@@ -1,3 +1,9 @@
 pub mod Parts
 pub mod Ring
 pub mod Ways
+pub mod ServerCalls
+pub mod ClientCalls
+pub mod Reached
+pub mod Shows
+pub mod Offering
+pub mod Again

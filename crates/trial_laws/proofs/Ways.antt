@@ -74,6 +74,10 @@ module _ (log : List ℕ) (passed next before len : ℕ) (reply : List ℕ) (d :
   way-low (none a z e q) = omega arith
   way-low (some a c x y i e f q) = omega arith
 
+  pub way-small : Way log passed next before len reply d → len ≤ 1315
+  way-small (none a z e q) = omega arith
+  way-small (some a c x y i e f q) = y
+
   -- the log changes elsewhere
   pub way-log : (new : List ℕ) → ((j : ℕ) → next ≤ j → j < passed → broadcastBytes new j ≡ broadcastBytes log j)
       → Way log passed next before len reply d → Way new passed next before len reply d
