@@ -26,11 +26,11 @@ use Rattle.client_reply_check.specs.ReplyChecks.{replyNo}
 use Rattle.client_reply.specs.Reply.{replyDone, replyStep, repliedReplica, commitMessage, chainAfter, isAborted, saysOf}
 use Rattle.client.specs.Receive.{receiveStep}
 use Rattle.progress.specs.HonestRuns as H
-use Rattle.progress.specs.HonestRuns.{Line, written, rest}
+use Rattle.progress.specs.HonestRuns.{World, Line, written, rest}
 use Rattle.progress.proofs.Calls.{Success}
 use Rattle.progress.proofs.Written.{written-invoke, written-commit, commit-no-invoke}
-use Rattle.trial_core.specs.Trial.{isSuccess}
-use Rattle.trial_laws.specs.TrialRuns.{sent}
+use Rattle.trial_core.specs.Trial.{isSuccess, toldWord}
+use Rattle.trial_laws.specs.TrialRuns.{sent, invokedWord}
 
 -- ---- a success
 success-yes : (t : Told) → Success t → isSuccess t ≡ true
@@ -74,15 +74,34 @@ no-current-of : (r : Replica) (kind cell amount room : ℕ) → invokeNo r kind 
 unfolding invokeNo
 no-current-of r kind cell amount room z = all-yes 0 (invokeChecks r kind cell amount room) (refl, (refl, (refl, (refl, (refl, (refl, tt)))))) z .1 .1 .1 .0
 
-pub invoke-step : (r : Replica) (kind cell amount room : ℕ)
-    → Invoking r (invokeStep r kind cell amount room) ⊎ ((k : ℕ) × (invokeStep r kind cell amount room ≡ stopStep r k))
+-- a call that a check stopped
+pub record Stopping (q : Step) : Type 0 where
+  pub no-told : isSuccess (q .after .says) ≡ false
+  pub sent-told : (n room : ℕ) → sent n room (q .after .says) ≡ []
+  pub word-told : (w : World) (n : ℕ) → invokedWord w n (q .after .says) ≡ toldWord (q .after .says)
+  pub none : q .wrote ≡ []
+
+stop-cases : (P : Told → Type 0) (r : Replica) (k : ℕ) → P (O.halted k) → P (O.refused k) → P (stop r k .says)
+stop-cases P r k h f = cond-cases (λ (a : After). P (a .says)) (leb 20 k && leb k 25) (halt r k) (refuse r k) (λ e. h) (λ e. f)
+
+stopping : (r : Replica) (k : ℕ) → Stopping (stopStep r k)
+unfolding sent invokedWord
+stopping r k =
+    record {
+      no-told = stop-cases (λ (t : Told). isSuccess t ≡ false) r k refl refl;
+      sent-told = λ n room. stop-cases (λ (t : Told). sent n room t ≡ []) r k refl refl;
+      word-told = λ w n. stop-cases (λ (t : Told). invokedWord w n t ≡ toldWord t) r k refl refl;
+      none = refl;
+    }
+
+pub invoke-step : (r : Replica) (kind cell amount room : ℕ) → Invoking r (invokeStep r kind cell amount room) ⊎ Stopping (invokeStep r kind cell amount room)
 unfolding invokeStep
 invoke-step r kind cell amount room =
     let x = invokeNo r kind cell amount room in
     let e = newOp r kind cell amount in
-    cond-cases (λ (q : Step). Invoking r q ⊎ ((k : ℕ) × (q ≡ stopStep r k))) (eqb x 0) _ (stopStep r x)
+    cond-cases (λ (q : Step). Invoking r q ⊎ Stopping q) (eqb x 0) _ (stopStep r x)
     (λ t. inl (record { idle = no-current-of r kind cell amount room (eqb-true x 0 t); says = (r .count + 1, refl); form = message-form r e; one = written-invoke r e }))
-    (λ f. inr (x, refl))
+    (λ f. inr (stopping r x))
 
 -- ---- a reply is taken
 pub record Replying (q : Step) : Type 0 where

@@ -7,3 +7,6 @@ pub mod Reached
 pub mod Shows
 pub mod Offering
 pub mod Again
+pub mod Full
+pub mod Invoking
+pub mod InvokeMove

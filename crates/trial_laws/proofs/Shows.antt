@@ -1,15 +1,17 @@
 -- How the program's state shows a world of a run: the working relation of the theorem on trials.
 use Prim.Native.Nat.{ℕ, zero, suc, _+_, _<_, _≤_}
-use mathlib.Core.Path.{_≡_, refl, sym, ap, subst}
+use mathlib.Core.Path.{_≡_, refl, sym, ap, subst, _∙_}
 use mathlib.Core.List.{List, [], _∷_}
 use mathlib.Core.Bool.{Bool, true, false, cond, true≢false}
 use lib.ListN.{length, getD, set}
+use lib.Seq.{getD-set-same, getD-set-other}
 use native.Mathlib.Omega.{arith}
 use native.Mathlib.Decide.{ℕ-discrete}
 use Rattle.message.specs.Message.{isInvoke}
 use Rattle.replica.specs.declared.Replica.{Replica}
 use Rattle.replica.specs.Replica.{zeroReplica}
-use Rattle.progress.specs.HonestRuns.{World, Line}
+use Rattle.progress.specs.HonestRuns.{World, Line, update}
+use Rattle.progress.proofs.Acting.{update-same, update-other}
 use Rattle.trial_core.specs.Trial.{Lent, replyBytes, invokeBytes}
 use Rattle.trial_core.specs.declared.Lines.{Lines}
 use Rattle.trial_laws.proofs.Ways.{Way, Quiet}
@@ -69,3 +71,19 @@ by-dec P i j p f (no n) = f n
 -- of one client, and of the others
 pub by-client : (P : ℕ → Type 0) (i : ℕ) → P i → ((j : ℕ) → j < 8 → (j ≡ i → ⊥) → P j) → (j : ℕ) → j < 8 → P j
 by-client P i p f j h = by-dec P i j p (f j h) (ℕ-discrete j i)
+
+-- a replica is new
+pub replica-set : (rs : List Replica) (f : ℕ → Replica) (i : ℕ) (r : Replica) → length rs ≡ 8 → ((j : ℕ) → j < 8 → getD rs j zeroReplica ≡ f (j + 1))
+    → i < 8 → (j : ℕ) → j < 8 → getD (set rs i r) j zeroReplica ≡ update f (i + 1) r (j + 1)
+replica-set rs f i r z S h =
+    by-client (λ (j : ℕ). getD (set rs i r) j zeroReplica ≡ update f (i + 1) r (j + 1)) i
+    (getD-set-same rs i r zeroReplica (omega arith) ∙ sym (update-same f (i + 1) (i + 1) r refl))
+    (λ j g e. getD-set-other rs i j r zeroReplica e ∙ S j g ∙ sym (update-other f (i + 1) (j + 1) r (λ q. e (omega arith))))
+
+update-dec : {A : Type 0} (f : ℕ → A) (n k : ℕ) (x : A) → f n ≡ x → Dec (k ≡ n) → update f n x k ≡ f k
+update-dec f n k x e (yes q) = update-same f n k x q ∙ sym e ∙ ap f (sym q)
+update-dec f n k x e (no q) = update-other f n k x q
+
+-- an update that changes nothing
+pub update-idle : {A : Type 0} (f : ℕ → A) (n k : ℕ) (x : A) → f n ≡ x → update f n x k ≡ f k
+update-idle f n k x e = update-dec f n k x e (ℕ-discrete k n)
