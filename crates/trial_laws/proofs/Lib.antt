@@ -10,3 +10,6 @@ pub mod Again
 pub mod Full
 pub mod Invoking
 pub mod InvokeMove
+pub mod Passing
+pub mod Replied
+pub mod Replying
