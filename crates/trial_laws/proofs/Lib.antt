@@ -13,3 +13,5 @@ pub mod InvokeMove
 pub mod Passing
 pub mod Replied
 pub mod Replying
+pub mod Confirming
+pub mod DeliverMove
