@@ -15,3 +15,6 @@ pub mod Replied
 pub mod Replying
 pub mod Confirming
 pub mod DeliverMove
+pub mod Steps
+pub mod Trials
+pub mod NeverHalt

@@ -3,8 +3,8 @@
 use Prim.Native.Nat.{ℕ, zero, suc, _+_}
 use mathlib.Core.Path.{_≡_}
 use mathlib.Core.List.{List, [], _∷_, _++_, List·Memᴰ}
-use mathlib.Core.Bool.{Bool, true, false, cond, _&&_, _||_}
-use lib.Dec.{leb, eqb}
+use mathlib.Core.Bool.{Bool, false, cond, _||_}
+use lib.Dec.{leb}
 use Rattle.message.specs.Message.{isReply}
 use Rattle.replica.specs.Outcome as O
 use Rattle.replica.specs.Outcome.{Told}
@@ -13,8 +13,8 @@ use Rattle.client.specs.Receive.{receiveStep}
 use Rattle.server.specs.Server.{serverStep}
 use Rattle.progress.specs.HonestRuns as H
 use Rattle.progress.specs.HonestRuns.{World, Line, Action, act, runFrom, start}
-use Rattle.trial_text.specs.Line.{Asked, invoke, deliver, other, Word, placed, answer, aside, confirm, empty, nay, halt, bad, full}
-use Rattle.trial_core.specs.Trial.{Lent, LineStep, lineStep, startTrial, startLent, trialKeys, toldWord, servedWord, isClient}
+use Rattle.trial_text.specs.Line.{Asked, invoke, deliver, other, Word, empty, halt, bad, full}
+use Rattle.trial_core.specs.Trial.{Lent, lineStep, startTrial, startLent, trialKeys, toldWord, servedWord, isClient}
 use Rattle.trial_core.specs.declared.Trial.{Trial}
 
 -- bytes lent to the server for an invoke and for a commit, and to a client for an invoke and for a message: always enough
@@ -114,16 +114,22 @@ lineVan (invoke n kind cell amount) = cond (isClient n) n 0
 unfoldable pub offered : World → World
 offered w = runFrom w (offers 8)
 
--- the actions of a trial, line by line
+-- the world after a line
+unfoldable pub afterLine : World → Asked → World
+afterLine w a = runFrom (offered w) (lineActions (offered w) a)
+
+-- the world after a trial, its actions line by line, and what is printed: van and word of each line
+unfoldable pub trialWorld : World → List Asked → World
+trialWorld w [] = w
+trialWorld w (a ∷ more) = trialWorld (afterLine w a) more
+
 unfoldable pub trialActions : World → List Asked → List Action
 trialActions w [] = []
-trialActions w (a ∷ more) =
-    offers 8 ++ (lineActions (offered w) a ++ trialActions (runFrom (offered w) (lineActions (offered w) a)) more)
+trialActions w (a ∷ more) = offers 8 ++ (lineActions (offered w) a ++ trialActions (afterLine w a) more)
 
--- what is printed: van and word of each line
 unfoldable pub trialWords : World → List Asked → List (ℕ × Word)
 trialWords w [] = []
-trialWords w (a ∷ more) = (lineVan a, lineWord (offered w) a) ∷ trialWords (runFrom (offered w) (lineActions (offered w) a)) more
+trialWords w (a ∷ more) = (lineVan a, lineWord (offered w) a) ∷ trialWords (afterLine w a) more
 
 -- what the program's step gives, line by line
 unfoldable pub printed : Trial → Lent → List Asked → List (ℕ × Word)
@@ -132,7 +138,11 @@ printed t b (a ∷ more) =
     let r = lineStep t b a in (r .van, r .word) ∷ printed (r .trial) (r .lent) more
 
 -- ---- the claims
--- what the program prints is what a run with a server that follows the rules gives, from a fresh server, empty lines and eight fresh clients
+-- the worlds of a trial are those of a run with a server that follows the rules, from a fresh server, empty lines and eight fresh clients
+unfoldable pub TrialRun : Type 0
+TrialRun = (lines : List Asked) → trialWorld (start trialKeys) lines ≡ runFrom (start trialKeys) (trialActions (start trialKeys) lines)
+
+-- what the program prints is what that run gives
 unfoldable pub TrialHonest : Type 0
 TrialHonest = (lines : List Asked) → printed startTrial startLent lines ≡ trialWords (start trialKeys) lines
 
