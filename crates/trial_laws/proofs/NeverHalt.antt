@@ -2,7 +2,7 @@
 use Prim.Native.Nat.{ℕ}
 use mathlib.Core.Path.{_≡_, refl, sym, ap, subst, _∙_}
 use mathlib.Core.Logic.{⊎-elim}
-use mathlib.Core.List.{List, [], _∷_, _++_, List·Memᴰ, List·Memᴰ·head, List·Memᴰ·tail, List·Memᴰ·not-nil, List·Memᴰ·cases-cons}
+use mathlib.Core.List.{List, [], _∷_, _++_, append-assoc, List·Memᴰ, List·Memᴰ·head, List·Memᴰ·tail, List·Memᴰ·not-nil, List·Memᴰ·cases-cons}
 use mathlib.Core.Bool.{cond}
 use Rattle.replica.specs.Outcome as O
 use Rattle.replica.specs.Outcome.{Told}
@@ -36,12 +36,88 @@ Fine full = Unit {0}
 told-append : (w : World) (xs ys : List Action) → toldFrom w (xs ++ ys) ≡ toldFrom w xs ++ toldFrom (runFrom w xs) ys
 unfolding toldFrom runFrom
 told-append w [] ys = refl
-told-append w (x ∷ xs) ys = ap (λ (l : List Told). toldIn w x ++ l) (told-append (act w x) xs ys) ∙ ?
+told-append w (x ∷ xs) ys =
+    ap (λ (l : List Told). toldIn w x ++ l) (told-append (act w x) xs ys) ∙ sym (append-assoc (toldIn w x) (toldFrom (act w x) xs) (toldFrom (runFrom (act w x) xs) ys))
 
 member-right : (x : Told) (xs ys : List Told) → List·Memᴰ x ys → List·Memᴰ x (xs ++ ys)
 member-right x [] ys m = m
 member-right x (y ∷ xs) ys m = List·Memᴰ·tail (member-right x xs ys m)
 
+-- t is not a halt
+abbrev Calm : Told → Type 0
+Calm t = (k : ℕ) → t ≡ O.halted k → ⊥
+
+calm : (w : World) → Reached w → (a : Action) (t : Told) → toldIn w a ≡ t ∷ [] → Calm t
+unfolding toldFrom NoHalt
+calm w R a t e k q =
+    let x : List·Memᴰ (O.halted k) (toldFrom w (a ∷ [])) = subst (List·Memᴰ (O.halted k)) (sym (ap (λ (l : List Told). l ++ []) e)) (List·Memᴰ·head (sym q)) in
+    let y = subst (λ (v : World). List·Memᴰ (O.halted k) (toldFrom v (a ∷ []))) (sym (R .is)) x in
+    no-halt trialKeys (R .actions ++ (a ∷ [])) k
+    (subst (List·Memᴰ (O.halted k)) (sym (told-append (start trialKeys) (R .actions) (a ∷ [])))
+    (member-right (O.halted k) (toldFrom (start trialKeys) (R .actions)) _ y))
+
+-- ---- words
+told-fine : (t : Told) → Calm t → Fine (toldWord t)
+told-fine O.opened c = tt
+told-fine (O.invoked n) c = tt
+told-fine (O.responded seq x) c = tt
+told-fine (O.aborted seq) c = tt
+told-fine (O.confirmed seq status) c = tt
+told-fine (O.refused n) c = tt
+told-fine (O.halted n) c = c n refl
+
+served-fine : (t : ServerTold) → Fine (servedWord t)
+served-fine (Sv.placed n) = tt
+served-fine (Sv.broadcast n) = tt
+served-fine (Sv.refused n) = tt
+
+head-fine : (w : World) (n : ℕ) (l : Line) → Fine (headWord w n l)
+unfolding headWord
+head-fine w n [] = tt
+head-fine w n (m ∷ l) = served-fine (serverStep (w .server) n m 1315 .says)
+
+invoked-fine : (w : World) (n : ℕ) (t : Told) → Calm t → Fine (invokedWord w n t)
+unfolding invokedWord
+invoked-fine w n (O.invoked k) c = head-fine w n (w .up n)
+invoked-fine w n O.opened c = tt
+invoked-fine w n (O.responded seq x) c = tt
+invoked-fine w n (O.aborted seq) c = tt
+invoked-fine w n (O.confirmed seq status) c = tt
+invoked-fine w n (O.refused k) c = tt
+invoked-fine w n (O.halted k) c = c k refl
+
 module _ (w : World) (R : Reached w) where
-  calm : (a : Action) (t : Told) (k : ℕ) → toldIn w a ≡ t ∷ [] → t ≡ O.halted k → ⊥
-  calm a t k e q = ?
+  deliver-fine : (n : ℕ) (l : Line) → w .down n ≡ l → Fine (deliverWord (toldBy w n l))
+  unfolding deliverWord toldBy toldIn toldHead
+  deliver-fine n [] e = tt
+  deliver-fine n (m ∷ d) e =
+      let t = receiveStep (w .replica n) m 80 .after .says in
+      told-fine t (calm w R (H.deliver n 80) t (ap (toldHead w n 80) e))
+
+  invoke-fine : (n kind cell amount : ℕ) → Fine (invokeWord w n kind cell amount)
+  unfolding invokeWord toldIn
+  invoke-fine n kind cell amount =
+      let t = invokeStep (w .replica n) kind cell amount 43 .after .says in
+      let a = H.invoke n kind cell amount 43 in
+      cond-cases Fine (isFull w 8) full (invokedWord (act w a) n t) (λ e. tt) (λ e. invoked-fine (act w a) n t (calm w R a t refl))
+
+  line-fine : (a : Asked) → Fine (lineWord w a)
+  unfolding lineWord
+  line-fine other = tt
+  line-fine (deliver n) = cond-cases Fine (isClient n) (deliverWord (toldBy w n (w .down n))) bad (λ e. deliver-fine n (w .down n) refl) (λ e. tt)
+  line-fine (invoke n kind cell amount) = cond-cases Fine (isClient n) (invokeWord w n kind cell amount) bad (λ e. invoke-fine n kind cell amount) (λ e. tt)
+
+-- ---- whole trials
+words-fine : (lines : List Asked) (w : World) → Reached w → (n k : ℕ) → List·Memᴰ (n, halt k) (trialWords w lines) → ⊥
+unfolding trialWords offered
+words-fine [] w R n k m = List·Memᴰ·not-nil m
+words-fine (a ∷ more) w R n k m =
+    ⊎-elim
+    (λ (e : (n, halt k) ≡ (lineVan a, lineWord (offered w) a)).
+    subst Fine (sym (ap (λ (p : ℕ × Word). p .1) e)) (line-fine (offered w) (reached-run w (offers 8) R) a))
+    (λ (x : List·Memᴰ (n, halt k) (trialWords (afterLine w a) more)). words-fine more (afterLine w a) (reached-line w a R) n k x)
+    (List·Memᴰ·cases-cons m)
+
+pub never-halt : NeverHalt
+unfolding NeverHalt TrialHonest
+never-halt lines n k m = words-fine lines (start trialKeys) reached-start n k (subst (List·Memᴰ (n, halt k)) (trial-honest lines) m)
