@@ -70,6 +70,25 @@ lines-one g sv n b h c u d (inl (U, D)) = let x = ups-one g sv n h u U in let y 
 lines-one g sv n b h c u d (inr (U, D)) =
     let x : invokes u ≡ 0 = ap invokes U ∙ invokes-none in let y = downs-one g sv n b h c d D in omega arith
 
+-- an operation that is current is in one of the two
+asks-some : (g : Ghost) (n : ℕ) (h : Operation) (u : Line) → (h ≡ noOp → ⊥) → Asks g n h u → 1 ≤ invokes u
+asks-some g n h [] z U = absurd (z U)
+asks-some g n h (m ∷ u) z (a, e) = let x = invoke-counted m u (a .form) in omega arith
+
+ups-some : (g : Ghost) (sv : Server) (n : ℕ) (h : Operation) (u : Line) → (h ≡ noOp → ⊥) → Ups g sv n h u → 1 ≤ invokes u
+ups-some g sv n h [] z U = absurd (z U)
+ups-some g sv n h (m ∷ u) z (inl U) = asks-some g n h (m ∷ u) z U
+ups-some g sv n h (m ∷ u) z (inr (s, U)) = let x = other-from m u (s .other) in let y = asks-some g n h u z U in omega arith
+
+downs-some : (g : Ghost) (sv : Server) (n b : ℕ) (h : Operation) (c : ℕ) (d : Line) → (h ≡ noOp → ⊥) → Downs g sv n b h c d → 1 ≤ replies d
+downs-some g sv n b h c [] z D = absurd (z (D .1))
+downs-some g sv n b h c (m ∷ d) z (inl (r, D)) = let x = reply-counted m d (r .form) in omega arith
+downs-some g sv n b h c (m ∷ d) z (inr (p, D)) = let x = other-to m d (p .other) in let y = downs-some g sv n b h (suc c) d z D in omega arith
+
+lines-some : (g : Ghost) (sv : Server) (n b : ℕ) (h : Operation) (c : ℕ) (u d : Line) → (h ≡ noOp → ⊥) → Lines g sv n b h c u d → 1 ≤ replies d + invokes u
+lines-some g sv n b h c u d z (inl (U, D)) = let x = ups-some g sv n h u z U in omega arith
+lines-some g sv n b h c u d z (inr (U, D)) = let x = downs-some g sv n b h c d z D in omega arith
+
 -- a message that is no reply is a broadcast
 downs-passed : (g : Ghost) (sv : Server) (n b : ℕ) (h : Operation) (c : ℕ) (d : Line) → Downs g sv n b h c d → (m : List ℕ) → List·Memᴰ m d → isReply m ≡ false → isBroadcast m ≡ true
 downs-passed g sv n b h c [] D m i e = absurd (List·Memᴰ·not-nil i)
@@ -107,6 +126,15 @@ module _ (keys : List ℕ) (l : length keys ≡ 256) (n : ℕ) (low : 1 ≤ n) (
       let L = idle g (w .server) n b (r .current) (r .confirmed) (w .up n) (w .down n) (no-current (r .current) e) (client keys l n low high actions .lines) in
       let x = ups-none g (w .server) n (w .up n) (L .0) in
       let y = downs-none g (w .server) n b (r .confirmed) (w .down n) (L .1) in
+      omega arith
+
+  -- and exactly one where one is: none is lost, and none doubled
+  pub some-current : noCurrent (w .replica n .current) ≡ false → replies (w .down n) + invokes (w .up n) ≡ 1
+  some-current e =
+      let r = w .replica n in
+      let z : r .current ≡ noOp → ⊥ = λ q. true≢false (sym (ap noCurrent q) ∙ e) in
+      let x = lines-some (ghost keys actions) (w .server) n (w .server .passed) (r .current) (r .confirmed) (w .up n) (w .down n) z (client keys l n low high actions .lines) in
+      let y = one-way in
       omega arith
 
   -- a message to a client is a reply or a broadcast
