@@ -2,7 +2,7 @@
 use Prim.Native.Nat.{ℕ, zero, suc, _+_, _<_, _≤_}
 use mathlib.Core.Path.{_≡_, refl, sym, ap, subst, _∙_}
 use mathlib.Core.Logic.{⊎-elim}
-use mathlib.Core.List.{List, [], _∷_, _++_}
+use mathlib.Core.List.{List, [], _∷_}
 use mathlib.Core.Bool.{Bool, true, false, cond, _&&_, true≢false}
 use lib.ListN.{getD}
 use native.Mathlib.Omega.{arith}
@@ -15,7 +15,7 @@ use Rattle.server.specs.declared.Server.{Server}
 use Rattle.server.specs.Server as Sv
 use Rattle.server.specs.Server.{serverStep, stopStep}
 use Rattle.progress.specs.HonestRuns as H
-use Rattle.progress.specs.HonestRuns.{World, Line, Action, act, runFrom, serveHead, served}
+use Rattle.progress.specs.HonestRuns.{World, Line, act, runFrom, serveHead, served}
 use Rattle.trial_core.specs.Trial.{Lent, Offering, offer, offerOne, offerTo, hasPlace, invokeBytes}
 use Rattle.trial_core.specs.declared.Lines.{Lines}
 use Rattle.trial_laws.specs.TrialRuns.{offers}

@@ -1,19 +1,16 @@
 -- What the clients' calls of a trial come to. Assumes nothing.
-use Prim.Native.Nat.{ℕ, suc, _+_, _≤_}
+use Prim.Native.Nat.{ℕ, _+_}
 use mathlib.Core.Path.{_≡_, refl, sym, _∙_}
 use mathlib.Core.Logic.{_⊎_, inl, inr}
 use mathlib.Core.List.{List, [], _∷_}
 use mathlib.Core.Bool.{Bool, true, false, _&&_, true≢false}
 use lib.Dec.{leb, eqb}
 use lib.ListN.{length, drop}
-use native.Mathlib.Omega.{arith}
-use borrow.Author.Tests.{le-leb, eq-eqb, eqb-true}
+use borrow.Author.Tests.{eqb-true}
 use Rattle.operation.specs.declared.Operation.{Operation}
-use Rattle.operation.specs.Operation.{noOp}
 use Rattle.message.specs.declared.Item.{Item}
 use Rattle.message.specs.Message.{isInvoke, isReply, marked, invokeBytes, replyCount}
 use Rattle.message.proofs.Laws.{item-length}
-use Rattle.verify.specs.Verify.{invokeTag}
 use Rattle.verify.proofs.Laws.{invoke-tag-length}
 use Rattle.replica.specs.declared.Replica.{Replica}
 use Rattle.replica.specs.Outcome as O

@@ -1,24 +1,22 @@
 -- A client takes a broadcast: the program's move is the run's action. Assumes nothing.
 use Prim.Native.Nat.{ℕ, _+_, _<_, _≤_}
 use mathlib.Core.Path.{_≡_, refl, sym, ap, subst, _∙_}
-use mathlib.Core.List.{List, [], _∷_, _++_, append-nil}
-use mathlib.Core.Bool.{false}
-use lib.ListN.{length, getD, set, drop, length-set}
+use mathlib.Core.List.{List, _∷_, _++_, append-nil}
+use lib.ListN.{getD, set, drop, length-set}
 use lib.Seq.{getD-set-same, getD-set-other}
 use native.Mathlib.Omega.{arith}
-use Rattle.message.specs.Message.{isReply}
 use Rattle.replica.specs.declared.Replica.{Replica}
 use Rattle.replica.specs.Replica.{Step, zeroReplica}
 use Rattle.client.specs.Receive.{receiveStep}
 use Rattle.progress.specs.HonestRuns as H
-use Rattle.progress.specs.HonestRuns.{World, Line, act, deliverIn, deliverHead, update, putOne, written, rest}
+use Rattle.progress.specs.HonestRuns.{World, act, deliverIn, deliverHead, putOne, written, rest}
 use Rattle.progress.proofs.Acting.{update-same, update-other}
 use Rattle.trial_core.specs.Trial.{Lent, withoutBroadcast, broadcastBytes, replyBytes, confirmedMove}
 use Rattle.trial_core.specs.declared.Lines.{Lines}
 use Rattle.trial_laws.proofs.Ways.{Way, way-confirmed}
 use Rattle.trial_laws.proofs.ClientCalls.{Confirming, confirm-step}
 use Rattle.trial_laws.proofs.Reached.{Reached, takes}
-use Rattle.trial_laws.proofs.Shows.{Client, ClientAt, Sizes, Shows, trues, by-client, replica-set, update-idle}
+use Rattle.trial_laws.proofs.Shows.{ClientAt, Sizes, Shows, trues, by-client, replica-set, update-idle}
 use Rattle.trial_laws.proofs.InvokeMove.{Moved}
 
 module _ (rs : List Replica) (l : Lines) (b : Lent) (w : World) (S : Shows rs l b w) (R : Reached w) (i : ℕ) (h : i < 8)

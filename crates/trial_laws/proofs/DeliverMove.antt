@@ -1,8 +1,8 @@
 -- `D van`: the client takes the head of its line. Assumes nothing.
 use Prim.Native.Nat.{ℕ, _+_, _<_, _≤_}
 use mathlib.Core.Path.{_≡_, refl, sym, ap, subst, _∙_}
-use mathlib.Core.List.{List, [], _∷_, _++_}
-use mathlib.Core.Bool.{Bool, true, false, not, _&&_, true≢false}
+use mathlib.Core.List.{List, [], _∷_}
+use mathlib.Core.Bool.{true, false, not, _&&_, true≢false}
 use lib.ListN.{getD, set, drop}
 use lib.Dec.{leb, eqb}
 use lib.Seq.{set-getD}
@@ -17,11 +17,10 @@ use Rattle.client.specs.Receive.{receiveStep}
 use Rattle.progress.specs.HonestRuns as H
 use Rattle.progress.specs.HonestRuns.{World, Line, Action, act, runFrom, deliverHead}
 use Rattle.trial_text.specs.Line.{empty}
-use Rattle.trial_core.specs.Trial.{Lent, Move, replyFirst, broadcastFirst, replyBytes, broadcastBytes, toldWord, repliedMove, confirmedMove, stoppedMove, replyMove, broadcastMove, emptyMove, deliverMove}
+use Rattle.trial_core.specs.Trial.{Lent, Move, replyFirst, broadcastFirst, replyBytes, broadcastBytes, toldWord, repliedMove, confirmedMove, replyMove, broadcastMove, emptyMove, deliverMove}
 use Rattle.trial_core.specs.declared.Lines.{Lines}
 use Rattle.trial_laws.specs.TrialRuns.{sent, sentBy, toldBy, deliverActions, deliverWord}
 use Rattle.trial_laws.proofs.Ways.{way-empty}
-use Rattle.trial_laws.proofs.ClientCalls.{Replying, Confirming}
 use Rattle.trial_laws.proofs.Reached.{Reached}
 use Rattle.trial_laws.proofs.Shows.{Shows}
 use Rattle.trial_laws.proofs.InvokeMove.{Moved}

@@ -2,14 +2,13 @@
 use Prim.Native.Nat.{ℕ, _+_, _*_, _<_}
 use mathlib.Core.Path.{_≡_, refl, sym, ap, subst, _∙_}
 use mathlib.Core.Logic.{⊎-elim}
-use mathlib.Core.List.{List, [], _∷_}
-use mathlib.Core.Bool.{Bool, true, false, cond}
+use mathlib.Core.List.{List, _∷_}
+use mathlib.Core.Bool.{Bool, true, false}
 use lib.ListN.{length, getD, set}
 use lib.Seq.{getD-set-same, set-set}
 use native.Mathlib.Omega.{arith}
 use Rattle.slices.specs.Bytes.{put}
 use Rattle.replica.specs.declared.Replica.{Replica}
-use Rattle.replica.specs.Outcome as O
 use Rattle.replica.specs.Outcome.{Told}
 use Rattle.replica.specs.Replica.{Step}
 use Rattle.client_invoke.specs.Invoke.{invokeStep}
@@ -17,8 +16,8 @@ use Rattle.server.specs.declared.Server.{Server}
 use Rattle.server.specs.Server as Sv
 use Rattle.server.specs.Server.{serverStep}
 use Rattle.progress.specs.HonestRuns as H
-use Rattle.progress.specs.HonestRuns.{World, Line, Action, act, runFrom, invokeIn}
-use Rattle.trial_core.specs.Trial.{Lent, Move, Offering, withReply, withRefused, offeredLines, offer, isPlaced, isSuccess, servedWord, invokeBytes, invokedMove, stoppedMove, invokeMove}
+use Rattle.progress.specs.HonestRuns.{World, Action, act, runFrom, invokeIn}
+use Rattle.trial_core.specs.Trial.{Lent, Move, Offering, withReply, withRefused, offeredLines, offer, isSuccess, servedWord, invokeBytes, invokedMove, stoppedMove, invokeMove}
 use Rattle.trial_core.specs.declared.Lines.{Lines}
 use Rattle.trial_laws.specs.TrialRuns.{isFull, sent, headWord, invokedWord}
 use Rattle.trial_laws.proofs.ClientCalls.{Invoking, Stopping, invoke-step}

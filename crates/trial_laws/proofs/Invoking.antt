@@ -1,31 +1,26 @@
 -- A client invokes an operation: the program's move is the run's actions. Assumes nothing.
 use Prim.Native.Nat.{ℕ, suc, _+_, _*_, _<_, _≤_}
-use mathlib.Core.Path.{_≡_, refl, sym, ap, subst, _∙_}
+use mathlib.Core.Path.{_≡_, refl, sym, ap, _∙_}
 use mathlib.Core.Logic.{⊎-elim}
 use mathlib.Core.List.{List, [], _∷_, _++_, append-nil}
-use mathlib.Core.Bool.{Bool, true, false, cond, true≢false}
-use lib.ListN.{length, getD, set, take, drop, length-set}
-use lib.Seq.{getD-set-same, getD-set-other, set-set}
+use mathlib.Core.Bool.{Bool, true, false, cond}
+use lib.ListN.{length, getD, set, length-set}
+use lib.Seq.{getD-set-same, getD-set-other}
 use native.Mathlib.Omega.{arith}
 use Rattle.slices.specs.Bytes.{put}
 use Rattle.slices.proofs.Laws.{put-length}
-use Rattle.message.specs.Message.{isInvoke}
 use Rattle.replica.specs.declared.Replica.{Replica}
 use Rattle.replica.specs.Replica.{Step, zeroReplica}
-use Rattle.client_invoke.specs.Invoke.{invokeStep}
-use Rattle.server.specs.declared.Server.{Server}
-use Rattle.progress.specs.HonestRuns as H
-use Rattle.progress.specs.HonestRuns.{World, Line, act, runFrom, invokeIn, update, putOne, written}
+use Rattle.progress.specs.HonestRuns.{World, update, putOne, written}
 use Rattle.progress.proofs.Acting.{update-same, update-other}
 use Rattle.progress.proofs.OneWay.{replies, invokes, invoke-counted, invoke-43}
-use Rattle.trial_core.specs.Trial.{Lent, withRefused, replyBytes, invokeBytes}
+use Rattle.trial_core.specs.Trial.{Lent, withRefused, invokeBytes}
 use Rattle.trial_core.specs.declared.Lines.{Lines}
 use Rattle.trial_laws.specs.TrialRuns.{isFull}
 use Rattle.trial_laws.proofs.Parts.{bool-cases, part-put, part-other}
-use Rattle.trial_laws.proofs.Ways.{Way}
 use Rattle.trial_laws.proofs.ClientCalls.{Invoking, Stopping}
 use Rattle.trial_laws.proofs.Reached.{Reached, none-current, server-ranged}
-use Rattle.trial_laws.proofs.Shows.{Client, ClientAt, Sizes, Shows, trues, trues-few, by-client, replica-set, update-idle}
+use Rattle.trial_laws.proofs.Shows.{ClientAt, Sizes, Shows, trues, trues-few, by-client, replica-set, update-idle}
 use Rattle.trial_laws.proofs.Full.{behind}
 
 -- the bytes lent, with other invokes

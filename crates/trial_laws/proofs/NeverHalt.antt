@@ -3,7 +3,6 @@ use Prim.Native.Nat.{ℕ}
 use mathlib.Core.Path.{_≡_, refl, sym, ap, subst, _∙_}
 use mathlib.Core.Logic.{⊎-elim}
 use mathlib.Core.List.{List, [], _∷_, _++_, append-assoc, List·Memᴰ, List·Memᴰ·head, List·Memᴰ·tail, List·Memᴰ·not-nil, List·Memᴰ·cases-cons}
-use mathlib.Core.Bool.{cond}
 use Rattle.replica.specs.Outcome as O
 use Rattle.replica.specs.Outcome.{Told}
 use Rattle.replica.proofs.Laws.{cond-cases}
@@ -15,8 +14,8 @@ use Rattle.progress.specs.HonestRuns as H
 use Rattle.progress.specs.HonestRuns.{World, Line, Action, act, runFrom, start, toldHead, toldIn, toldFrom, NoHalt}
 use Rattle.progress.proofs.NoHalt.{no-halt}
 use Rattle.trial_text.specs.Line.{Asked, invoke, deliver, other, Word, placed, answer, aside, confirm, empty, nay, halt, bad, full}
-use Rattle.trial_core.specs.Trial.{trialKeys, startTrial, startLent, isClient, toldWord, servedWord}
-use Rattle.trial_laws.specs.TrialRuns.{isFull, toldBy, headWord, invokedWord, invokeWord, deliverWord, lineWord, lineVan, offers, offered, afterLine, trialWords, printed, TrialHonest, NeverHalt}
+use Rattle.trial_core.specs.Trial.{trialKeys, isClient, toldWord, servedWord}
+use Rattle.trial_laws.specs.TrialRuns.{isFull, toldBy, headWord, invokedWord, invokeWord, deliverWord, lineWord, lineVan, offers, offered, afterLine, trialWords, TrialHonest, NeverHalt}
 use Rattle.trial_laws.proofs.Reached.{Reached, reached-start, reached-run}
 use Rattle.trial_laws.proofs.Trials.{reached-line, trial-honest}
 

@@ -1,18 +1,17 @@
 -- The server takes a client's invoke: the program's offer is the run's action. Assumes nothing.
 use Prim.Native.Nat.{ℕ, suc, _+_, _*_, _<_, _≤_}
 use mathlib.Core.Path.{_≡_, refl, sym, ap, subst, _∙_}
-use mathlib.Core.Logic.{⊎-elim, inl, inr}
+use mathlib.Core.Logic.{⊎-elim}
 use mathlib.Core.List.{List, [], _∷_, _++_, List·Memᴰ, List·Memᴰ·head, List·Memᴰ·tail}
 use mathlib.Core.Bool.{Bool, true, false, cond, true≢false}
-use lib.ListN.{length, getD, set, take, drop, length-set}
+use lib.ListN.{length, getD, set, drop, length-set}
 use lib.Seq.{getD-set-same, getD-set-other, set-getD}
 use native.Mathlib.Omega.{arith}
 use Rattle.slices.specs.Bytes.{put}
 use Rattle.slices.proofs.Laws.{put-length}
-use Rattle.message.specs.Message.{isInvoke, isReply, isBroadcast}
+use Rattle.message.specs.Message.{isInvoke, isReply}
 use Rattle.message.proofs.Laws.{reply-length}
 use Rattle.replica.specs.declared.Replica.{Replica}
-use Rattle.server.specs.declared.Server.{Server}
 use Rattle.server.specs.Server as Sv
 use Rattle.server.specs.Server.{serverStep, stopStep}
 use Rattle.progress.specs.HonestRuns as H
@@ -25,7 +24,7 @@ use Rattle.trial_laws.proofs.Parts.{bool-cases, part-put, part-other, p
 use Rattle.trial_laws.proofs.Ways.{Way, way-reply, way-idle, way-small}
 use Rattle.trial_laws.proofs.ServerCalls.{Placing, invoke-call}
 use Rattle.trial_laws.proofs.Reached.{Reached, reached-act, one-way, to-broadcast}
-use Rattle.trial_laws.proofs.Shows.{Client, ClientAt, Sizes, Shows, trues, trues-less, by-client}
+use Rattle.trial_laws.proofs.Shows.{ClientAt, Sizes, Shows, trues, trues-less, by-client}
 
 member-end : (d : Line) (m : List ℕ) → List·Memᴰ m (d ++ (m ∷ []))
 member-end [] m = List·Memᴰ·head refl

@@ -1,9 +1,9 @@
 -- Broadcasts are put on the line to a client, and into the log. Assumes nothing.
 use Prim.Native.Nat.{ℕ, _+_, _*_, _<_, _≤_}
-use mathlib.Core.Path.{_≡_, sym, ap, subst, _∙_}
+use mathlib.Core.Path.{_≡_, ap, subst, _∙_}
 use mathlib.Core.Logic.{⊎-elim}
 use mathlib.Core.List.{List, _++_}
-use mathlib.Core.Bool.{Bool, false}
+use mathlib.Core.Bool.{Bool}
 use lib.ListN.{length}
 use native.Mathlib.Omega.{arith}
 use Rattle.message.specs.Message.{isReply}

@@ -1,6 +1,6 @@
 -- What the theorems on runs with a server that follows the rules say of a world that a trial reaches. Assumes nothing.
 use Prim.Native.Nat.{ℕ, _+_, _<_, _≤_}
-use mathlib.Core.Path.{_≡_, refl, sym, ap, subst, _∙_}
+use mathlib.Core.Path.{_≡_, refl, ap, subst, _∙_}
 use mathlib.Core.List.{List, [], _∷_, _++_, List·Memᴰ}
 use mathlib.Core.Bool.{true, false}
 use lib.ListN.{length}
@@ -8,7 +8,6 @@ use native.Mathlib.Omega.{arith}
 use Rattle.message.specs.Message.{isInvoke, isReply, isBroadcast}
 use Rattle.replica.specs.Replica.{noCurrent}
 use Rattle.client.specs.Receive.{receiveStep}
-use Rattle.server.specs.declared.Server.{Server}
 use Rattle.server.specs.Server as Sv
 use Rattle.server.specs.Server.{inRange, serverStep}
 use Rattle.server_laws.proofs.State.{Sizes}

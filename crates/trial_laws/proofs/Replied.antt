@@ -1,9 +1,9 @@
 -- The world after a client took a reply and the server its commit is shown again. Assumes nothing.
-use Prim.Native.Nat.{ℕ, _+_, _*_, _<_, _≤_}
-use mathlib.Core.Path.{_≡_, refl, sym, ap, subst, _∙_}
+use Prim.Native.Nat.{ℕ, _+_, _<_, _≤_}
+use mathlib.Core.Path.{_≡_, refl, sym, ap, _∙_}
 use mathlib.Core.List.{List, [], _∷_, _++_}
 use mathlib.Core.Bool.{true, false}
-use lib.ListN.{length, getD, set, drop, length-set}
+use lib.ListN.{getD, set, drop, length-set}
 use lib.Seq.{getD-set-same, getD-set-other}
 use native.Mathlib.Omega.{arith}
 use native.Mathlib.Decide.{ℕ-discrete}
@@ -20,7 +20,7 @@ use Rattle.trial_laws.proofs.Ways.{Way, Quiet, end-quiet}
 use Rattle.trial_laws.proofs.ServerCalls.{Passing}
 use Rattle.trial_laws.proofs.ClientCalls.{Replying}
 use Rattle.trial_laws.proofs.Reached.{Reached, none-current, server-ranged}
-use Rattle.trial_laws.proofs.Shows.{Client, ClientAt, Sizes, Shows, trues, by-client, replica-set}
+use Rattle.trial_laws.proofs.Shows.{ClientAt, Sizes, Shows, trues, by-client, replica-set}
 use Rattle.trial_laws.proofs.Passing.{new-line, passed-client}
 
 -- the bytes lent, with another log

@@ -7,7 +7,6 @@ use lib.ListN.{length, take, drop, length-take, length-drop}
 use lib.Seq.{drop-drop}
 use native.Mathlib.Omega.{arith}
 use native.Mathlib.Nat.{eq-or-lt-of-le, le-of-suc-le-suc}
-use Rattle.slices.specs.Bytes.{put}
 use Rattle.slices.proofs.Laws.{put-length}
 use Rattle.progress.specs.HonestRuns.{Line, pieces}
 use Rattle.trial_core.specs.Trial.{broadcastBytes, logged}

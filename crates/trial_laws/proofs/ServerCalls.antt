@@ -1,5 +1,5 @@
 -- What the server's calls of a trial come to. Assumes nothing.
-use Prim.Native.Nat.{ℕ, suc, _+_, _-_, _*_, _<_, _≤_}
+use Prim.Native.Nat.{ℕ, suc, _+_, _*_, _<_, _≤_}
 use mathlib.Core.Path.{_≡_, refl, sym, ap, subst, _∙_}
 use mathlib.Core.Logic.{_⊎_, inl, inr}
 use mathlib.Core.List.{List, [], _∷_}
@@ -8,7 +8,6 @@ use lib.ListN.{length, length-take, length-drop}
 use native.Mathlib.Omega.{arith}
 use borrow.Author.Tests.{le-leb, lt-ltb}
 use Rattle.message.specs.declared.Item.{Item}
-use Rattle.message.specs.declared.Commit.{Commit}
 use Rattle.message.specs.Message.{isInvoke, isBroadcast, marked, itemAt, commitOf, replyBytes, itemsBytes}
 use Rattle.server.specs.declared.Server.{Server}
 use Rattle.server.specs.Server as Sv

@@ -1,24 +1,21 @@
 -- One line of input: the program's step is the run's actions, and gives the same word. Assumes nothing.
-use Prim.Native.Nat.{ℕ, _+_, _-_, _<_, _≤_}
-use mathlib.Core.Path.{_≡_, refl, sym, ap, subst, _∙_}
+use Prim.Native.Nat.{ℕ, _+_, _-_, _<_}
+use mathlib.Core.Path.{_≡_, refl, sym, subst}
 use mathlib.Core.Logic.{⊎-elim}
-use mathlib.Core.List.{List, [], _∷_}
-use mathlib.Core.Bool.{Bool, true, false, cond, _&&_}
+use mathlib.Core.List.{[]}
+use mathlib.Core.Bool.{Bool, true, false, cond}
 use lib.Dec.{leb}
 use native.Mathlib.Omega.{arith}
 use borrow.Author.Tests.{leb-true}
 use Rattle.slices.proofs.Laws.{and-yes}
 use Rattle.replica.specs.declared.Replica.{Replica}
-use Rattle.replica.proofs.Laws.{cond-cases}
-use Rattle.client_invoke.specs.Invoke.{invokeStep}
 use Rattle.server.specs.declared.Server.{Server}
-use Rattle.progress.specs.HonestRuns as H
-use Rattle.progress.specs.HonestRuns.{World, Action, act, runFrom}
+use Rattle.progress.specs.HonestRuns.{World, runFrom}
 use Rattle.trial_text.specs.Line.{Asked, invoke, deliver, other, Word, bad, full}
 use Rattle.trial_core.specs.Trial as T
-use Rattle.trial_core.specs.Trial.{Lent, Move, Offering, LineStep, isClient, replicaOf, moved, unmoved, invokeMove, deliverMove, commandStep, offerTo, againOf, againTrial, againLent, lineStep}
+use Rattle.trial_core.specs.Trial.{Lent, Move, LineStep, isClient, replicaOf, moved, unmoved, invokeMove, deliverMove, commandStep, offerTo, againOf, againTrial, againLent, lineStep}
 use Rattle.trial_core.specs.declared.Trial.{Trial}
-use Rattle.trial_laws.specs.TrialRuns.{isFull, sent, toldBy, deliverActions, invokeActions, lineActions, invokedWord, invokeWord, deliverWord, lineVan, lineWord, offers, offered, afterLine}
+use Rattle.trial_laws.specs.TrialRuns.{isFull, toldBy, deliverActions, invokeActions, lineActions, invokeWord, deliverWord, lineVan, lineWord, offers, offered, afterLine}
 use Rattle.trial_laws.proofs.Parts.{bool-cases}
 use Rattle.trial_laws.proofs.Reached.{Reached, reached-run}
 use Rattle.trial_laws.proofs.Shows.{Shows}

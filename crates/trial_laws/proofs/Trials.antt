@@ -9,19 +9,18 @@ use lib.Seq.{getD-at}
 use native.Mathlib.Omega.{arith}
 use native.Mathlib.Numerals.{add-one}
 use native.Mathlib.Nat.{eq-or-lt-of-le, le-of-suc-le-suc}
-use Rattle.replica.specs.declared.Replica.{Replica}
 use Rattle.replica.specs.Replica.{zeroReplica}
 use Rattle.client_invoke.specs.Invoke.{openStep}
-use Rattle.progress.specs.HonestRuns.{World, start, act, runFrom}
-use Rattle.trial_text.specs.Line.{Asked, Word}
-use Rattle.trial_core.specs.Trial.{Lent, LineStep, lineStep, trialKeys, replicasTo, startTrial, startLent}
+use Rattle.progress.specs.HonestRuns.{World, start, runFrom}
+use Rattle.trial_text.specs.Line.{Asked}
+use Rattle.trial_core.specs.Trial.{Lent, lineStep, trialKeys, replicasTo, startTrial, startLent}
 use Rattle.trial_core.specs.declared.Trial.{Trial}
-use Rattle.trial_laws.specs.TrialRuns.{lineActions, lineVan, lineWord, offers, offered, afterLine, trialWorld, trialActions, trialWords, printed, TrialRun, TrialHonest}
+use Rattle.trial_laws.specs.TrialRuns.{lineActions, offers, offered, afterLine, trialWorld, trialActions, trialWords, printed, TrialRun, TrialHonest}
 use Rattle.trial_laws.proofs.Ring.{logFrom}
 use Rattle.trial_laws.proofs.Ways.{none}
 use Rattle.trial_laws.proofs.Reached.{Reached, run-append, reached-start, reached-run}
-use Rattle.trial_laws.proofs.Shows.{Client, ClientAt, Sizes, Shows, trues}
-use Rattle.trial_laws.proofs.Steps.{Shown, Result, line-result}
+use Rattle.trial_laws.proofs.Shows.{ClientAt, Sizes, trues}
+use Rattle.trial_laws.proofs.Steps.{Shown, line-result}
 
 -- ---- the start
 replicas-length : (n : ℕ) → length (replicasTo n) ≡ n

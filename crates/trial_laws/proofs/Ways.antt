@@ -1,15 +1,14 @@
 -- A line to a client as the program keeps it: broadcasts of the log, with at most one reply among them. Assumes nothing.
-use Prim.Native.Nat.{ℕ, zero, suc, _+_, _-_, _<_, _≤_}
+use Prim.Native.Nat.{ℕ, zero, suc, _+_, _<_, _≤_}
 use mathlib.Core.Path.{_≡_, refl, sym, ap, _∙_}
 use mathlib.Core.Logic.{⊎-elim}
 use mathlib.Core.List.{List, [], _∷_, _++_, append-assoc}
-use mathlib.Core.Bool.{Bool, true, false, cond, true≢false}
+use mathlib.Core.Bool.{true, false}
 use lib.ListN.{drop}
 use native.Mathlib.Omega.{arith}
 use native.Mathlib.Nat.{eq-or-lt-of-le}
 use native.Mathlib.Numerals.{add-one}
 use Rattle.message.specs.Message.{isReply}
-use Rattle.replica.proofs.Laws.{cond-cases}
 use Rattle.progress.specs.HonestRuns.{Line}
 use Rattle.progress.proofs.OneWay.{replies, reply-counted, other-to}
 use Rattle.trial_core.specs.Trial.{broadcastBytes}
