@@ -15,11 +15,11 @@ use Rattle.replica.specs.Replica.{zeroReplica}
 use Rattle.replica.proofs.Laws.{cond-cases}
 use Rattle.client.specs.Receive.{receiveStep}
 use Rattle.progress.specs.HonestRuns as H
-use Rattle.progress.specs.HonestRuns.{World, Line, Action, act, runFrom, deliverHead}
+use Rattle.progress.specs.HonestRuns.{World, Line, Action, act, runFrom, deliverHead, toldHead, toldIn}
 use Rattle.trial_text.specs.Line.{empty}
 use Rattle.trial_core.specs.Trial.{Lent, Move, replyFirst, broadcastFirst, replyBytes, broadcastBytes, toldWord, repliedMove, confirmedMove, replyMove, broadcastMove, emptyMove, deliverMove}
 use Rattle.trial_core.specs.declared.Lines.{Lines}
-use Rattle.trial_laws.specs.TrialRuns.{sent, sentBy, toldBy, deliverActions, deliverWord}
+use Rattle.trial_laws.specs.TrialRuns.{sent, sentBy, deliverActions, deliverWord}
 use Rattle.trial_laws.proofs.Ways.{way-empty}
 use Rattle.trial_laws.proofs.Reached.{Reached}
 use Rattle.trial_laws.proofs.Shows.{Shows}
@@ -42,9 +42,9 @@ first-no len before next e a c q =
     true≢false (sym y ∙ e)
 
 -- ---- where m is the head of the line
-told-head : (w : World) (n : ℕ) (m : List ℕ) (d : Line) → w .down n ≡ m ∷ d → toldBy w n (w .down n) ≡ receiveStep (w .replica n) m 80 .after .says ∷ []
-unfolding toldBy
-told-head w n m d e = ap (toldBy w n) e
+told-head : (w : World) (n : ℕ) (m : List ℕ) (d : Line) → w .down n ≡ m ∷ d → toldIn w (H.deliver n 80) ≡ receiveStep (w .replica n) m 80 .after .says ∷ []
+unfolding toldIn toldHead
+told-head w n m d e = ap (toldHead w n 80) e
 
 run-head : (w : World) (n : ℕ) (m : List ℕ) (d : Line) (more : List Action) → w .down n ≡ m ∷ d
     → sent n 2560 (receiveStep (w .replica n) m 80 .after .says) ≡ more → runFrom w (deliverActions w n) ≡ runFrom (act w (H.deliver n 80)) more
@@ -53,27 +53,27 @@ run-head w n m d more e s =
     ap (λ (ts : List Told). runFrom (act w (H.deliver n 80)) (sentBy n ts)) (told-head w n m d e)
     ∙ ap (runFrom (act w (H.deliver n 80))) s
 
-word-head : (w : World) (n : ℕ) (m : List ℕ) (d : Line) → w .down n ≡ m ∷ d → toldWord (receiveStep (w .replica n) m 80 .after .says) ≡ deliverWord (toldBy w n (w .down n))
+word-head : (w : World) (n : ℕ) (m : List ℕ) (d : Line) → w .down n ≡ m ∷ d → toldWord (receiveStep (w .replica n) m 80 .after .says) ≡ deliverWord (toldIn w (H.deliver n 80))
 unfolding deliverWord
 word-head w n m d e = ap deliverWord (sym (told-head w n m d e))
 
 -- ---- where the line is empty
 run-none : (w : World) (n : ℕ) → w .down n ≡ [] → runFrom w (deliverActions w n) ≡ w
-unfolding deliverActions sentBy toldBy runFrom act deliverHead
+unfolding deliverActions sentBy toldIn toldHead runFrom act deliverHead
 run-none w n e =
-    ap (λ (d : Line). runFrom (act w (H.deliver n 80)) (sentBy n (toldBy w n d))) e
+    ap (λ (d : Line). runFrom (act w (H.deliver n 80)) (sentBy n (toldHead w n 80 d))) e
     ∙ ap (deliverHead w n 80) e
 
-word-none : (w : World) (n : ℕ) → w .down n ≡ [] → empty ≡ deliverWord (toldBy w n (w .down n))
-unfolding deliverWord toldBy
-word-none w n e = ap (λ (d : Line). deliverWord (toldBy w n d)) (sym e)
+word-none : (w : World) (n : ℕ) → w .down n ≡ [] → empty ≡ deliverWord (toldIn w (H.deliver n 80))
+unfolding deliverWord toldIn toldHead
+word-none w n e = ap (λ (d : Line). deliverWord (toldHead w n 80 d)) (sym e)
 
 module _ (rs : List Replica) (l : Lines) (b : Lent) (w : World) (S : Shows rs l b w) (R : Reached w) (i : ℕ) (h : i < 8) where
   abbrev n : ℕ
   n = i + 1
 
   abbrev Good : Move → Type 0
-  Good m = Moved rs i (runFrom w (deliverActions w n)) m × (m .word ≡ deliverWord (toldBy w n (w .down n)))
+  Good m = Moved rs i (runFrom w (deliverActions w n)) m × (m .word ≡ deliverWord (toldIn w (H.deliver n 80)))
 
   reply-case : replyFirst l i ≡ true → Good (replyMove (w .replica n) (w .server) l i b)
   unfolding replyMove repliedMove runFrom

@@ -15,7 +15,7 @@ use Rattle.progress.specs.HonestRuns.{World, Line, Action, act, runFrom, start,
 use Rattle.progress.proofs.NoHalt.{no-halt}
 use Rattle.trial_text.specs.Line.{Asked, invoke, deliver, other, Word, placed, answer, aside, confirm, empty, nay, halt, bad, full}
 use Rattle.trial_core.specs.Trial.{trialKeys, isClient, toldWord, servedWord}
-use Rattle.trial_laws.specs.TrialRuns.{isFull, toldBy, headWord, invokedWord, invokeWord, deliverWord, lineWord, lineVan, offers, offered, afterLine, trialWords, TrialHonest, NeverHalt}
+use Rattle.trial_laws.specs.TrialRuns.{isFull, headWord, invokedWord, invokeWord, deliverWord, lineWord, lineVan, offers, offered, afterLine, trialWords, TrialHonest, NeverHalt}
 use Rattle.trial_laws.proofs.Reached.{Reached, reached-start, reached-run}
 use Rattle.trial_laws.proofs.Trials.{reached-line, trial-honest}
 
@@ -86,8 +86,8 @@ invoked-fine w n (O.refused k) c = tt
 invoked-fine w n (O.halted k) c = c k refl
 
 module _ (w : World) (R : Reached w) where
-  deliver-fine : (n : ℕ) (l : Line) → w .down n ≡ l → Fine (deliverWord (toldBy w n l))
-  unfolding deliverWord toldBy toldIn toldHead
+  deliver-fine : (n : ℕ) (l : Line) → w .down n ≡ l → Fine (deliverWord (toldHead w n 80 l))
+  unfolding deliverWord toldIn toldHead
   deliver-fine n [] e = tt
   deliver-fine n (m ∷ d) e =
       let t = receiveStep (w .replica n) m 80 .after .says in
@@ -101,9 +101,9 @@ module _ (w : World) (R : Reached w) where
       cond-cases Fine (isFull w 8) full (invokedWord (act w a) n t) (λ e. tt) (λ e. invoked-fine (act w a) n t (calm w R a t refl))
 
   line-fine : (a : Asked) → Fine (lineWord w a)
-  unfolding lineWord
+  unfolding lineWord toldIn
   line-fine other = tt
-  line-fine (deliver n) = cond-cases Fine (isClient n) (deliverWord (toldBy w n (w .down n))) bad (λ e. deliver-fine n (w .down n) refl) (λ e. tt)
+  line-fine (deliver n) = cond-cases Fine (isClient n) (deliverWord (toldIn w (H.deliver n 80))) bad (λ e. deliver-fine n (w .down n) refl) (λ e. tt)
   line-fine (invoke n kind cell amount) = cond-cases Fine (isClient n) (invokeWord w n kind cell amount) bad (λ e. invoke-fine n kind cell amount) (λ e. tt)
 
 -- ---- whole trials

@@ -10,12 +10,13 @@ use borrow.Author.Tests.{leb-true}
 use Rattle.slices.proofs.Laws.{and-yes}
 use Rattle.replica.specs.declared.Replica.{Replica}
 use Rattle.server.specs.declared.Server.{Server}
-use Rattle.progress.specs.HonestRuns.{World, runFrom}
+use Rattle.progress.specs.HonestRuns as H
+use Rattle.progress.specs.HonestRuns.{World, runFrom, toldIn}
 use Rattle.trial_text.specs.Line.{Asked, invoke, deliver, other, Word, bad, full}
 use Rattle.trial_core.specs.Trial as T
 use Rattle.trial_core.specs.Trial.{Lent, Move, LineStep, isClient, replicaOf, moved, unmoved, invokeMove, deliverMove, commandStep, offerTo, againOf, againTrial, againLent, lineStep}
 use Rattle.trial_core.specs.declared.Trial.{Trial}
-use Rattle.trial_laws.specs.TrialRuns.{isFull, toldBy, deliverActions, invokeActions, lineActions, invokeWord, deliverWord, lineVan, lineWord, offers, offered, afterLine}
+use Rattle.trial_laws.specs.TrialRuns.{isFull, deliverActions, invokeActions, lineActions, invokeWord, deliverWord, lineVan, lineWord, offers, offered, afterLine}
 use Rattle.trial_laws.proofs.Parts.{bool-cases}
 use Rattle.trial_laws.proofs.Reached.{Reached, reached-run}
 use Rattle.trial_laws.proofs.Shows.{Shows}
@@ -49,12 +50,12 @@ module _ (t : Trial) (b : Lent) (w : World) (S : Shown t b w) (R : Reached w) wh
     same-replica : w .replica n ≡ replicaOf t i
     same-replica = sym (S .0 .replica i h)
 
-    deliver-result : Result (moved t i (deliverMove (replicaOf t i) (t .server) (t .lines) i b)) (runFrom w (deliverActions w n)) n (deliverWord (toldBy w n (w .down n)))
+    deliver-result : Result (moved t i (deliverMove (replicaOf t i) (t .server) (t .lines) i b)) (runFrom w (deliverActions w n)) n (deliverWord (toldIn w (H.deliver n 80)))
     deliver-result =
         let G = deliver-move (t .replicas) (t .lines) b w (S .0) R i h in
-        subst (λ (s : Server). Result (moved t i (deliverMove (replicaOf t i) s (t .lines) i b)) (runFrom w (deliverActions w n)) n (deliverWord (toldBy w n (w .down n)))) (sym (S .1))
-        (subst (λ (r : Replica). Result (moved t i (deliverMove r (w .server) (t .lines) i b)) (runFrom w (deliverActions w n)) n (deliverWord (toldBy w n (w .down n)))) same-replica
-        (moved-result i (deliverMove (w .replica n) (w .server) (t .lines) i b) (runFrom w (deliverActions w n)) (deliverWord (toldBy w n (w .down n))) (G .0) (G .1)))
+        subst (λ (s : Server). Result (moved t i (deliverMove (replicaOf t i) s (t .lines) i b)) (runFrom w (deliverActions w n)) n (deliverWord (toldIn w (H.deliver n 80)))) (sym (S .1))
+        (subst (λ (r : Replica). Result (moved t i (deliverMove r (w .server) (t .lines) i b)) (runFrom w (deliverActions w n)) n (deliverWord (toldIn w (H.deliver n 80)))) same-replica
+        (moved-result i (deliverMove (w .replica n) (w .server) (t .lines) i b) (runFrom w (deliverActions w n)) (deliverWord (toldIn w (H.deliver n 80))) (G .0) (G .1)))
 
     -- ---- `I van kind cell amount`
     module _ (kind cell amount : ℕ) where
@@ -94,7 +95,7 @@ module _ (t : Trial) (b : Lent) (w : World) (S : Shown t b w) (R : Reached w) wh
       ⊎-elim
       (λ (e : isClient n ≡ true).
       let y = client-low n e in
-      rw e (subst (λ (k : ℕ). Result (moved t (n - 1) (deliverMove (replicaOf t (n - 1)) (t .server) (t .lines) (n - 1) b)) (runFrom w (deliverActions w k)) k (deliverWord (toldBy w k (w .down k)))) (y .1)
+      rw e (subst (λ (k : ℕ). Result (moved t (n - 1) (deliverMove (replicaOf t (n - 1)) (t .server) (t .lines) (n - 1) b)) (runFrom w (deliverActions w k)) k (deliverWord (toldIn w (H.deliver k 80)))) (y .1)
       (deliver-result (n - 1) (y .0))))
       (λ (e : isClient n ≡ false). rw e (unmoved-result 0 bad))
       (bool-cases (isClient n))

@@ -1,5 +1,5 @@
 -- The trial of document 01, "Cases", as a run with a server that follows the rules (specs/HonestRuns.antt of progress): what each line
--- of input does is a list of that run's actions.
+-- of input does is a list of that run's actions. Quotes are from "Cases". Van: client; relay: server.
 use Prim.Native.Nat.{ℕ, zero, suc, _+_}
 use mathlib.Core.Path.{_≡_}
 use mathlib.Core.List.{List, [], _∷_, _++_, List·Memᴰ}
@@ -9,15 +9,15 @@ use Rattle.message.specs.Message.{isReply}
 use Rattle.replica.specs.Outcome as O
 use Rattle.replica.specs.Outcome.{Told}
 use Rattle.client_invoke.specs.Invoke.{invokeStep}
-use Rattle.client.specs.Receive.{receiveStep}
 use Rattle.server.specs.Server.{serverStep}
 use Rattle.progress.specs.HonestRuns as H
-use Rattle.progress.specs.HonestRuns.{World, Line, Action, act, runFrom, start}
+use Rattle.progress.specs.HonestRuns.{World, Line, Action, act, runFrom, start, toldIn}
 use Rattle.trial_text.specs.Line.{Asked, invoke, deliver, other, Word, empty, halt, bad, full}
 use Rattle.trial_core.specs.Trial.{Lent, lineStep, startTrial, startLent, trialKeys, toldWord, servedWord, isClient}
 use Rattle.trial_core.specs.declared.Trial.{Trial}
 
--- bytes lent to the server for an invoke and for a commit, and to a client for an invoke and for a message: always enough
+-- bytes lent to the server for an invoke (a reply of 32 items) and for a commit (32 broadcasts). A client is lent 43 for an invoke and 80
+-- for a message: always enough
 abbrev pub invokeRoom : ℕ
 invokeRoom = 1315
 
@@ -50,18 +50,13 @@ sent n room (O.confirmed seq status) = []
 sent n room (O.refused k) = []
 sent n room (O.halted k) = []
 
--- what the head of a line to client n tells it
-unfoldable pub toldBy : World → ℕ → Line → List Told
-toldBy w n [] = []
-toldBy w n (m ∷ ms) = receiveStep (w .replica n) m 80 .after .says ∷ []
-
 unfoldable pub sentBy : ℕ → List Told → List Action
 sentBy n [] = []
 sentBy n (t ∷ ts) = sent n commitRoom t
 
 -- `D van`: "deliver the relay's next message"
 unfoldable pub deliverActions : World → ℕ → List Action
-deliverActions w n = H.deliver n 80 ∷ sentBy n (toldBy w n (w .down n))
+deliverActions w n = H.deliver n 80 ∷ sentBy n (toldIn w (H.deliver n 80))
 
 -- `I van kind cell amount`; while full, it "does nothing"
 unfoldable pub invokeActions : World → ℕ → ℕ → ℕ → ℕ → List Action
@@ -100,7 +95,7 @@ deliverWord (t ∷ ts) = toldWord t
 
 unfoldable pub lineWord : World → Asked → Word
 lineWord w other = bad
-lineWord w (deliver n) = cond (isClient n) (deliverWord (toldBy w n (w .down n))) bad
+lineWord w (deliver n) = cond (isClient n) (deliverWord (toldIn w (H.deliver n 80))) bad
 lineWord w (invoke n kind cell amount) = cond (isClient n) (invokeWord w n kind cell amount) bad
 
 -- "A line of another form, or with a van not 1 to 8 or a number above 255, gives `bad`, with van 0"
