@@ -3,7 +3,7 @@ use Prim.Native.Nat.{ℕ, zero, suc, _+_, _<_, _≤_}
 use mathlib.Core.Path.{_≡_, refl, sym, ap, subst, _∙_}
 use mathlib.Core.Logic.{⊎-elim}
 use mathlib.Core.List.{List, [], _∷_}
-use mathlib.Core.Bool.{Bool, true, false, cond, _&&_, true≢false}
+use mathlib.Core.Bool.{Bool, true, false, cond, _&&_}
 use lib.ListN.{getD}
 use native.Mathlib.Omega.{arith}
 use native.Mathlib.Numerals.{add-one}
@@ -20,7 +20,7 @@ use Rattle.trial_core.specs.Trial.{Lent, Offering, offer, offerOne, offerTo, ha
 use Rattle.trial_core.specs.declared.Lines.{Lines}
 use Rattle.trial_laws.specs.TrialRuns.{offers}
 use Rattle.trial_laws.proofs.Parts.{bool-cases}
-use Rattle.trial_laws.proofs.ServerCalls.{Placing, invoke-call}
+use Rattle.trial_laws.proofs.ServerCalls.{no-place}
 use Rattle.trial_laws.proofs.Reached.{Reached, run-append, reached-run}
 use Rattle.trial_laws.proofs.Shows.{Shows}
 use Rattle.trial_laws.proofs.Offering.{replied, offered}
@@ -34,16 +34,11 @@ served-stopped : (w : World) (n : ℕ) (y : Sv.Step) (x : ℕ) → y ≡ stopSte
 unfolding served
 served-stopped w n y x e = ap (λ (z : Sv.Step). served w n z (z .says)) e
 
--- where the server has no place to give, it refuses every invoke
 serve-stopped : (w : World) (n room : ℕ) (m : List ℕ) (u : Line) → w .up n ≡ m ∷ u → isInvoke m ≡ true → hasPlace (w .server) ≡ false → act w (H.serve n room) ≡ w
 unfolding act serveHead
 serve-stopped w n room m u q e f =
-    let y = serverStep (w .server) n m room in
-    ap (serveHead w n room) q
-    ∙ ⊎-elim
-    (λ (P : Placing (w .server) y). absurd (true≢false (sym (P .room) ∙ f)))
-    (λ (s : (x : ℕ) × (y ≡ stopStep (w .server) x)). served-stopped w n y (s .0) (s .1))
-    (invoke-call (w .server) n m room e)
+    let z = no-place (w .server) n m room e f in
+    ap (serveHead w n room) q ∙ served-stopped w n (serverStep (w .server) n m room) (z .0) (z .1)
 
 and-no : (a b : Bool) → (a && b) ≡ false → a ≡ true → b ≡ false
 and-no a b e t = rw t at e
@@ -68,8 +63,8 @@ module _ (rs : List Replica) (b : Lent) (w : World) (R : Reached w) (i : ℕ) (h
     none-waits : getD (o .lines .refused) i false ≡ false → act w (H.serve (i + 1) 1315) ≡ w
     none-waits e = serve-none w (i + 1) 1315 (G .0 .client i h .waits ∙ ap (λ (x : Bool). cond x (m ∷ []) []) e)
 
-    no-place : getD (o .lines .refused) i false ≡ true → hasPlace (o .server) ≡ false → act w (H.serve (i + 1) 1315) ≡ w
-    no-place e f =
+    no-place-left : getD (o .lines .refused) i false ≡ true → hasPlace (o .server) ≡ false → act w (H.serve (i + 1) 1315) ≡ w
+    no-place-left e f =
         let C = G .0 .client i h in
         serve-stopped w (i + 1) 1315 m [] (C .waits ∙ ap (λ (x : Bool). cond x (m ∷ []) []) e) (C .asks e) (ap hasPlace (sym (G .1)) ∙ f)
 
@@ -81,7 +76,7 @@ module _ (rs : List Replica) (b : Lent) (w : World) (R : Reached w) (i : ℕ) (h
         cond-cases (Good rs b v) (t && p) (offer (o .server) (o .lines) i m (o .replies)) o
         (λ e. waiting (and-yes t p e .0))
         (λ e. subst (λ (z : World). Good rs b z o)
-        (sym (⊎-elim (λ (x : t ≡ true). no-place x (and-no t p e x)) (λ (x : t ≡ false). none-waits x) (bool-cases t)))
+        (sym (⊎-elim (λ (x : t ≡ true). no-place-left x (and-no t p e x)) (λ (x : t ≡ false). none-waits x) (bool-cases t)))
         G)
 
 -- ---- all of them

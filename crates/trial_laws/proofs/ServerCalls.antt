@@ -1,7 +1,7 @@
 -- What the server's calls of a trial come to. Assumes nothing.
 use Prim.Native.Nat.{ℕ, suc, _+_, _*_, _<_, _≤_}
 use mathlib.Core.Path.{_≡_, refl, sym, ap, subst, _∙_}
-use mathlib.Core.Logic.{_⊎_, inl, inr}
+use mathlib.Core.Logic.{_⊎_, inl, inr, ⊎-elim}
 use mathlib.Core.List.{List, [], _∷_}
 use mathlib.Core.Bool.{true, false, true≢false}
 use lib.ListN.{length, length-take, length-drop}
@@ -69,6 +69,14 @@ invoke-call s n m room e =
     (λ P. inl (placing s n m (itemAt m 2) P))
     (λ P. absurd (true≢false (sym e ∙ P .form)))
     (λ x. inr (x, refl))
+
+-- where the server has no place to give, it refuses every invoke
+pub no-place : (s : Server) (n : ℕ) (m : List ℕ) (room : ℕ) → isInvoke m ≡ true → hasPlace s ≡ false → (x : ℕ) × (serverStep s n m room ≡ stopStep s x)
+no-place s n m room e f =
+    ⊎-elim
+    (λ (P : Placing s (serverStep s n m room)). absurd (true≢false (sym (P .room) ∙ f)))
+    (λ (q : (x : ℕ) × (serverStep s n m room ≡ stopStep s x)). q)
+    (invoke-call s n m room e)
 
 -- ---- a commit
 abbrev countOf : ServerTold → ℕ
