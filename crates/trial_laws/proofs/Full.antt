@@ -41,9 +41,10 @@ module _ (rs : List Replica) (l : Lines) (b : Lent) (w : World) (S : Shows rs l 
   unfolding T.isFull isFull
   full-same zero h = refl
   full-same (suc k) h =
-      let e : leb 256 (broadcastsIn (w .down (suc k))) ≡ leb (getD (l .next) k 0 + 256) (w .server .passed)
-      = ap (λ (n : ℕ). leb 256 (broadcastsIn (w .down n))) (sym (add-one k)) ∙ test-same _ _ _ (undelivered k h) in
-      rw (e, full-same k (omega arith))
+      let e : leb (getD (l .next) k 0 + 256) (w .server .passed) ≡ leb 256 (broadcastsIn (w .down (suc k)))
+      = sym (test-same _ _ _ (undelivered k h)) ∙ ap (λ (n : ℕ). leb 256 (broadcastsIn (w .down n))) (add-one k) in
+      let f = full-same k (omega arith) in
+      λ j. f j || e j
 
   not-full : (k : ℕ) → T.isFull (l .next) (w .server .passed) k ≡ false → (j : ℕ) → j < k → w .server .passed ≤ getD (l .next) j 0 + 255
   unfolding T.isFull
