@@ -14,7 +14,7 @@ use Rattle.progress.specs.HonestRuns as H
 use Rattle.progress.specs.HonestRuns.{World, Line, Action, act, runFrom, start, toldHead, toldIn, toldFrom, NoHalt}
 use Rattle.progress.proofs.NoHalt.{no-halt}
 use Rattle.trial_text.specs.Line.{Asked, invoke, deliver, other, Word, placed, answer, aside, confirm, empty, nay, halt, bad, full}
-use Rattle.trial_core.specs.Trial.{trialKeys, isClient, toldWord, servedWord}
+use Rattle.trial_core.specs.Trial.{trialKeys, isSuccess, isClient, toldWord, servedWord}
 use Rattle.trial_laws.specs.TrialRuns.{isFull, headWord, invokedWord, invokeWord, deliverWord, lineWord, lineVan, offers, offered, afterLine, trialWords, TrialHonest, NeverHalt}
 use Rattle.trial_laws.proofs.Reached.{Reached, reached-start, reached-run}
 use Rattle.trial_laws.proofs.Trials.{reached-line, trial-honest}
@@ -77,13 +77,7 @@ head-fine w n (m ∷ l) = served-fine (serverStep (w .server) n m 1315 .says)
 
 invoked-fine : (w : World) (n : ℕ) (t : Told) → Calm t → Fine (invokedWord w n t)
 unfolding invokedWord
-invoked-fine w n (O.invoked k) c = head-fine w n (w .up n)
-invoked-fine w n O.opened c = tt
-invoked-fine w n (O.responded seq x) c = tt
-invoked-fine w n (O.aborted seq) c = tt
-invoked-fine w n (O.confirmed seq status) c = tt
-invoked-fine w n (O.refused k) c = tt
-invoked-fine w n (O.halted k) c = c k refl
+invoked-fine w n t c = cond-cases Fine (isSuccess t) (headWord w n (w .up n)) (toldWord t) (λ e. head-fine w n (w .up n)) (λ e. told-fine t c)
 
 module _ (w : World) (R : Reached w) where
   deliver-fine : (n : ℕ) (l : Line) → w .down n ≡ l → Fine (deliverWord (toldHead w n 80 l))

@@ -50,19 +50,25 @@ module _ (t : Trial) (b : Lent) (w : World) (S : Shown t b w) (R : Reached w) wh
     same-replica : w .replica n ≡ replicaOf t i
     same-replica = sym (S .0 .replica i h)
 
-    deliver-result : Result (moved t i (deliverMove (replicaOf t i) (t .server) (t .lines) i b)) (runFrom w (deliverActions w n)) n (deliverWord (toldIn w (H.deliver n 80)))
+    abbrev Delivers : LineStep → Type 0
+    Delivers r = Result r (runFrom w (deliverActions w n)) n (deliverWord (toldIn w (H.deliver n 80)))
+
+    deliver-result : Delivers (moved t i (deliverMove (replicaOf t i) (t .server) (t .lines) i b))
     deliver-result =
         let G = deliver-move (t .replicas) (t .lines) b w (S .0) R i h in
-        subst (λ (s : Server). Result (moved t i (deliverMove (replicaOf t i) s (t .lines) i b)) (runFrom w (deliverActions w n)) n (deliverWord (toldIn w (H.deliver n 80)))) (sym (S .1))
-        (subst (λ (r : Replica). Result (moved t i (deliverMove r (w .server) (t .lines) i b)) (runFrom w (deliverActions w n)) n (deliverWord (toldIn w (H.deliver n 80)))) same-replica
-        (moved-result i (deliverMove (w .replica n) (w .server) (t .lines) i b) (runFrom w (deliverActions w n)) (deliverWord (toldIn w (H.deliver n 80))) (G .0) (G .1)))
+        subst (λ (s : Server). Delivers (moved t i (deliverMove (replicaOf t i) s (t .lines) i b))) (sym (S .1))
+        (subst (λ (r : Replica). Delivers (moved t i (deliverMove r (w .server) (t .lines) i b))) same-replica
+        (moved-result i (deliverMove (w .replica n) (w .server) (t .lines) i b) _ _ (G .0) (G .1)))
 
     -- ---- `I van kind cell amount`
     module _ (kind cell amount : ℕ) where
       abbrev step : Bool → Replica → Server → LineStep
       step f r s = cond f (unmoved t b n full) (moved t i (invokeMove r s (t .lines) i kind cell amount b))
 
-      by-full : Result (step (isFull w 8) (w .replica n) (w .server)) (runFrom w (invokeActions w n kind cell amount)) n (invokeWord w n kind cell amount)
+      abbrev Invokes : LineStep → Type 0
+      Invokes r = Result r (runFrom w (invokeActions w n kind cell amount)) n (invokeWord w n kind cell amount)
+
+      by-full : Invokes (step (isFull w 8) (w .replica n) (w .server))
       unfolding invokeActions invokeWord
       by-full =
           ⊎-elim
@@ -72,13 +78,11 @@ module _ (t : Trial) (b : Lent) (w : World) (S : Shown t b w) (R : Reached w) wh
           rw e (moved-result i (invokeMove (w .replica n) (w .server) (t .lines) i kind cell amount b) _ _ (G .0) (G .1)))
           (bool-cases (isFull w 8))
 
-      invoke-result : Result (step (T.isFull (t .lines .next) (t .server .passed) 8) (replicaOf t i) (t .server)) (runFrom w (invokeActions w n kind cell amount)) n (invokeWord w n kind cell amount)
+      invoke-result : Invokes (step (T.isFull (t .lines .next) (t .server .passed) 8) (replicaOf t i) (t .server))
       invoke-result =
-          subst (λ (s : Server). Result (step (T.isFull (t .lines .next) (s .passed) 8) (replicaOf t i) s) (runFrom w (invokeActions w n kind cell amount)) n (invokeWord w n kind cell amount)) (sym (S .1))
-          (subst (λ (r : Replica). Result (step (T.isFull (t .lines .next) (w .server .passed) 8) r (w .server)) (runFrom w (invokeActions w n kind cell amount)) n (invokeWord w n kind cell amount)) same-replica
-          (subst (λ (f : Bool). Result (step f (w .replica n) (w .server)) (runFrom w (invokeActions w n kind cell amount)) n (invokeWord w n kind cell amount))
-          (sym (full-same (t .replicas) (t .lines) b w (S .0) 8 (omega arith)))
-          by-full))
+          subst (λ (s : Server). Invokes (step (T.isFull (t .lines .next) (s .passed) 8) (replicaOf t i) s)) (sym (S .1))
+          (subst (λ (r : Replica). Invokes (step (T.isFull (t .lines .next) (w .server .passed) 8) r (w .server))) same-replica
+          (subst (λ (f : Bool). Invokes (step f (w .replica n) (w .server))) (sym (full-same (t .replicas) (t .lines) b w (S .0) 8 (omega arith))) by-full))
 
   -- ---- the command
   client-low : (n : ℕ) → isClient n ≡ true → (n - 1 < 8) × (n - 1 + 1 ≡ n)

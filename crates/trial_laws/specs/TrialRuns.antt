@@ -13,7 +13,7 @@ use Rattle.server.specs.Server.{serverStep}
 use Rattle.progress.specs.HonestRuns as H
 use Rattle.progress.specs.HonestRuns.{World, Line, Action, act, runFrom, start, toldIn}
 use Rattle.trial_text.specs.Line.{Asked, invoke, deliver, other, Word, empty, halt, bad, full}
-use Rattle.trial_core.specs.Trial.{Lent, lineStep, startTrial, startLent, trialKeys, toldWord, servedWord, isClient}
+use Rattle.trial_core.specs.Trial.{Lent, lineStep, startTrial, startLent, trialKeys, toldWord, servedWord, isSuccess, isClient}
 use Rattle.trial_core.specs.declared.Trial.{Trial}
 
 -- bytes lent to the server for an invoke (a reply of 32 items) and for a commit (32 broadcasts). A client is lent 43 for an invoke and 80
@@ -31,11 +31,12 @@ unfoldable pub offers : ℕ → List Action
 offers zero = []
 offers (suc n) = offers n ++ (H.serve (suc n) invokeRoom ∷ [])
 
--- "while 256 or more `BR`s are undelivered to some van": clients 1 to n
+-- the broadcasts in a line: its messages but replies
 unfoldable pub broadcastsIn : Line → ℕ
 broadcastsIn [] = 0
 broadcastsIn (m ∷ ms) = cond (isReply m) 0 1 + broadcastsIn ms
 
+-- "while 256 or more `BR`s are undelivered to some van": clients 1 to n
 unfoldable pub isFull : World → ℕ → Bool
 isFull w zero = false
 isFull w (suc n) = isFull w n || leb 256 (broadcastsIn (w .down (suc n)))
@@ -76,13 +77,7 @@ headWord w n (m ∷ ms) = servedWord (serverStep (w .server) n m invokeRoom .say
 
 -- "`placed` place", "`no` or `halt` number": the server's word on an invoke, else the client's
 unfoldable pub invokedWord : World → ℕ → Told → Word
-invokedWord w n (O.invoked k) = headWord w n (w .up n)
-invokedWord w n O.opened = toldWord O.opened
-invokedWord w n (O.responded seq x) = toldWord (O.responded seq x)
-invokedWord w n (O.aborted seq) = toldWord (O.aborted seq)
-invokedWord w n (O.confirmed seq status) = toldWord (O.confirmed seq status)
-invokedWord w n (O.refused k) = toldWord (O.refused k)
-invokedWord w n (O.halted k) = toldWord (O.halted k)
+invokedWord w n t = cond (isSuccess t) (headWord w n (w .up n)) (toldWord t)
 
 unfoldable pub invokeWord : World → ℕ → ℕ → ℕ → ℕ → Word
 invokeWord w n kind cell amount =
