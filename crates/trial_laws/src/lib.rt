@@ -1,0 +1,1 @@
+// Theorems on trials: no code. Definitions: specs/TrialRuns.antt.
