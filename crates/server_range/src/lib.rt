@@ -69,19 +69,15 @@ fn unused_ok(s: Server, n: usize) -> bool
 pub fn in_range(s: Server) -> bool
     ensures { λ r. ⌜ r ≡ inRange s ⌝ }
 {
-    if s.passed <= s.placed {
-        if s.placed - s.passed <= 32 {
-            let n = (s.placed - s.passed) as usize;
-            let counts = s.counts;
-            let statuses = s.statuses;
-            let c = counts_ok(&counts);
-            let u = slices::each_most(&statuses, 2);
-            let o = slots_ok(s, n);
-            let z = unused_ok(s, n);
-            (s.placed <= 1000000) & c & u & o & z
-        } else {
-            false
-        }
+    let n = server::minus(s.placed, s.passed) as usize;
+    if n <= 32 {
+        let counts = s.counts;
+        let statuses = s.statuses;
+        let c = counts_ok(&counts);
+        let u = slices::each_most(&statuses, 2);
+        let o = slots_ok(s, n);
+        let z = unused_ok(s, n);
+        (s.passed <= s.placed) & (s.placed <= 1000000) & c & u & o & z
     } else {
         false
     }

@@ -1,0 +1,44 @@
+// The checks of a commit's sequence number: 35 and 36. Definitions: specs/Server.antt of server, specs/Check.antt.
+ghost use mathlib.Core.Path.{_≡_};
+ghost use Prim.Native.Nat.{_-_, _≤_};
+ghost use Rattle.replica.specs.Replica.{firstNo};
+ghost use Rattle.server.specs.Server.{checkNo, placeOk};
+ghost use Rattle.server_commit_check.specs.Check.{placeChecks};
+use message::Commit;
+use server::Server;
+use server::ServerCheck;
+use server::ServerRefusal;
+
+// Whether the commit's sequence number waits, with that operation and author.
+fn place_ok(s: Server, k: Commit) -> bool
+    requires { ⌜ (s .passed ≤ s .placed) × (s .placed ≤ 1000000) × (s .placed - s .passed ≤ 32) ⌝ }
+    ensures { λ r. ⌜ r ≡ placeOk s k ⌝ }
+{
+    let first = s.passed + 1;
+    let last = s.placed;
+    let seq = k.seq;
+    let j = server::minus(seq, first) as usize;
+    if j < 32 {
+        let i = server::slot_item(s, j);
+        let e = i.op;
+        let f = k.op;
+        (first <= seq) & (seq <= last) & operation::same_op(e, f) & (i.author == k.author)
+    } else {
+        false
+    }
+}
+
+// The checks, in their order.
+pub fn place_check(s: Server, k: Commit) -> ServerCheck
+    requires { ⌜ (s .passed ≤ s .placed) × (s .placed ≤ 1000000) × (s .placed - s .passed ≤ 32) ⌝ }
+    ensures { λ q. ⌜ checkNo q ≡ firstNo 0 (placeChecks s k) ⌝ }
+{
+    if place_ok(s, k) {
+        let first = s.passed + 1;
+        let j = (k.seq - first) as usize;
+        let status = server::slot_status(s, j);
+        server::also(ServerCheck::Pass, status == 0, ServerRefusal::Committed)
+    } else {
+        ServerCheck::No(ServerRefusal::Place)
+    }
+}
