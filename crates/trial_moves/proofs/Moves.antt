@@ -22,7 +22,8 @@ use Rattle.trial_core.specs.declared.Lines.{Lines}
 use Rattle.trial_core.specs.Trial.{Offering, Move, isSuccess, broadcastCount, toldWord, logged, replyFirst, broadcastFirst, withoutReply, withoutBroadcast, invokeBytes, offer, invokedMove, stoppedMove, invokeMove, repliedMove, confirmedMove, replyMove, broadcastMove, emptyMove, deliverMove}
 use Rattle.trial_moves.specs.Moves.{lentOf}
 use Rattle.trial_moves.proofs.Laws.{over-fits, part-over, part-length, logged-over}
-use Rattle.trial_moves.proofs.ServerWrote.{Sizes, server-wrote}
+use Rattle.server_laws.proofs.State.{Sizes}
+use Rattle.trial_moves.proofs.ServerWrote.{server-wrote}
 
 pub move-same : {r r2 : Replica} {s s2 : Server} {l l2 : Lines} {w w2 : Word} {a a2 b b2 d d2 : List ℕ}
     → r ≡ r2 → s ≡ s2 → l ≡ l2 → w ≡ w2 → a ≡ a2 → b ≡ b2 → d ≡ d2
@@ -101,7 +102,7 @@ module _ (s : Server) (line : ℕ) (m out log : List ℕ) (sz : Sizes s) (z : le
     count-is = en ∙ ap broadcastCount eo
 
     sent-fits : n * 80 ≤ length (served .wrote)
-    sent-fits = rw count-is (server-wrote s line m (length out) sz .sent)
+    sent-fits = rw count-is (server-wrote s sz line m (length out) .sent)
 
     pub commit-fits : n * 80 ≤ length y
     commit-fits = rw ey (omega (arith, sent-fits, length-append (served .wrote) (drop (length (served .wrote)) out)))

@@ -15,7 +15,8 @@ use Rattle.trial_core.specs.declared.Lines.{Lines}
 use Rattle.trial_core.specs.Trial.{Offering, isPlaced, servedWord, withReply, withRefused, offeredLines, offer, hasPlace, offerOne, offerTo}
 use Rattle.trial_moves.specs.Moves.{unsaid, offeredOne, offeredTo}
 use Rattle.trial_moves.proofs.Laws.{over-fits, part-over, part-length, put-at}
-use Rattle.trial_moves.proofs.ServerWrote.{Sizes, server-wrote}
+use Rattle.server_laws.proofs.State.{Sizes}
+use Rattle.trial_moves.proofs.ServerWrote.{server-wrote}
 
 pub offering-same : {s t : Server} {l k : Lines} {v w : Word} {a b : List ℕ} → s ≡ t → l ≡ k → v ≡ w → a ≡ b
     → _≡_ {A = Offering} (record { server = s; lines = l; word = v; replies = a }) (record { server = t; lines = k; word = w; replies = b })
@@ -48,7 +49,7 @@ module _ (s : Server) (l : Lines) (i : ℕ) (m replies : List ℕ) (h : i < 8) (
 
     reply-long : Sizes s → isPlaced (step .says) ≡ true → 3 + getD after (i * 1315 + 2) 0 * 41 ≡ length (step .wrote)
     reply-long sz p =
-        let w = server-wrote s (i + 1) m 1315 sz .reply p in
+        let w = server-wrote s sz (i + 1) m 1315 .reply p in
         let g : getD (put replies (i * 1315) (step .wrote)) (i * 1315 + 2) 0 ≡ getD (step .wrote) 2 0 = put-at replies (step .wrote) (i * 1315) 2 (omega arith) (omega (arith, w)) in
         rw (after-put, g) (sym w)
 

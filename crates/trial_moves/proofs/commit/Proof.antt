@@ -1,13 +1,13 @@
 use Prim.Native.Nat.{_+_}
 use mathlib.Core.Path.{_∙_}
 use Rattle.trial_moves.proofs.Moves.{commit-fits, commit-logged, commit-server}
-use Rattle.trial_moves.proofs.ServerWrote.{Sizes}
+use Rattle.server_laws.proofs.State.{Sizes}
 use borrow.Author.Needs.{needs}
 use Rattle.trial_moves.proofs.commit.Statement.{statement}
 use Rattle.trial_moves.proofs.commit.Tie as tie
 
 sizes : (c : tie.Start) → Sizes (c .args .s)
-sizes c = record { items = search needs; statuses = search needs; digests = search needs; tags = search needs }
+sizes c = record { counts = search needs; items = search needs; statuses = search needs; digests = search needs; tags = search needs }
 
 room-requires : tie.Need-room-requires
 room-requires c κs = search needs
