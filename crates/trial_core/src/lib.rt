@@ -1,11 +1,19 @@
-// The trial of document 01: eight clients, the server and the lines between them, one command at a time. Definitions: specs/Trial.antt.
+// The trial of document 01: eight clients, the server and the lines between them. Its state, what an outcome prints, and changes to the
+// lines. Definitions: specs/Trial.antt.
+ghost use mathlib.Core.Path.{_≡_};
+ghost use mathlib.Core.Bool.{true};
+ghost use Prim.Native.Nat.{_+_, _<_};
+ghost use lib.Dec.{leb};
+ghost use Rattle.trial_text.specs.Line.{word};
+ghost use Rattle.replica.specs.Outcome as O;
+ghost use Rattle.server.specs.Server as S;
+ghost use Rattle.trial_core.specs.Trial.{toldWord, servedWord, isSuccess, isPlaced, broadcastCount, withReply, withRefused, withoutReply, withoutBroadcast, replyFirst, broadcastFirst, isFull, hasPlace};
 use replica::Done;
 use replica::Outcome;
 use replica::Replica;
 use server::Server;
 use server::ServerDone;
 use server::ServerOutcome;
-use trial_text::Command;
 use trial_text::Said;
 
 // The lines to the clients, client i + 1 at i. The broadcasts of all are one log: `next` has how many of them each client has taken. A
@@ -26,22 +34,200 @@ pub struct Trial {
     pub lines: Lines,
 }
 
-// A trial after a command, the van that is printed, and what the command gives.
-pub struct Result {
-    pub trial: Trial,
-    pub van: u8,
-    pub said: Said,
+// ---- outcomes
+
+fn done_said(done: Done) -> Said
+    ensures { λ r. ⌜ word r ≡ toldWord (O.doneTold done) ⌝ }
+{
+    match done {
+        Done::Opened => Said::Empty,
+        Done::Invoked(_) => Said::Empty,
+        Done::Responded { seq, response } => Said::Answer {
+            place: seq,
+            answer: response,
+        },
+        Done::Aborted { seq } => Said::Aside(seq),
+        Done::Confirmed { seq, status } => Said::Confirm { place: seq, status },
+    }
 }
 
-pub struct Offered {
-    pub server: Server,
-    pub lines: Lines,
-    pub said: Said,
+// What a client's outcome prints.
+pub fn told_said(outcome: Outcome) -> Said
+    ensures { λ r. ⌜ word r ≡ toldWord (O.told outcome) ⌝ }
+{
+    match outcome {
+        Outcome::Success(done) => done_said(done),
+        Outcome::Refused(why) => Said::No(replica::refusal_number(why)),
+        Outcome::Halted(why) => Said::Halt(replica::halt_number(why)),
+    }
 }
 
-pub struct Moved {
-    pub replica: Replica,
-    pub server: Server,
-    pub lines: Lines,
-    pub said: Said,
+// Whether a client's call is a success.
+pub fn is_success(outcome: Outcome) -> bool
+    ensures { λ r. ⌜ r ≡ isSuccess (O.told outcome) ⌝ }
+{
+    match outcome {
+        Outcome::Success(_) => true,
+        Outcome::Refused(_) => false,
+        Outcome::Halted(_) => false,
+    }
+}
+
+fn served_done(done: ServerDone) -> Said
+    ensures { λ r. ⌜ word r ≡ servedWord (S.doneTold done) ⌝ }
+{
+    match done {
+        ServerDone::Placed(p) => Said::Placed(p),
+        ServerDone::Broadcast(_) => Said::Empty,
+    }
+}
+
+// What the server's outcome prints.
+pub fn served_said(outcome: ServerOutcome) -> Said
+    ensures { λ r. ⌜ word r ≡ servedWord (S.told outcome) ⌝ }
+{
+    match outcome {
+        ServerOutcome::Success(done) => served_done(done),
+        ServerOutcome::Refused(why) => Said::No(server::refusal_number(why)),
+    }
+}
+
+fn done_placed(done: ServerDone) -> bool
+    ensures { λ r. ⌜ r ≡ isPlaced (S.doneTold done) ⌝ }
+{
+    match done {
+        ServerDone::Placed(_) => true,
+        ServerDone::Broadcast(_) => false,
+    }
+}
+
+// Whether the server placed an invoke.
+pub fn is_placed(outcome: ServerOutcome) -> bool
+    ensures { λ r. ⌜ r ≡ isPlaced (S.told outcome) ⌝ }
+{
+    match outcome {
+        ServerOutcome::Success(done) => done_placed(done),
+        ServerOutcome::Refused(_) => false,
+    }
+}
+
+fn done_count(done: ServerDone) -> u32
+    ensures { λ r. ⌜ r ≡ broadcastCount (S.doneTold done) ⌝ }
+{
+    match done {
+        ServerDone::Placed(_) => 0,
+        ServerDone::Broadcast(n) => n,
+    }
+}
+
+// How many broadcasts the server wrote.
+pub fn broadcast_count(outcome: ServerOutcome) -> u32
+    ensures { λ r. ⌜ r ≡ broadcastCount (S.told outcome) ⌝ }
+{
+    match outcome {
+        ServerOutcome::Success(done) => done_count(done),
+        ServerOutcome::Refused(_) => 0,
+    }
+}
+
+// ---- the lines to the clients
+
+// The lines with a reply at the end of that to client `i` + 1, which now has no invoke to be offered again.
+pub fn with_reply(l: Lines, i: usize, passed: u32, length: u32) -> Lines
+    requires { ⌜ i < 8 ⌝ }
+    ensures { λ r. ⌜ r ≡ withReply l i passed length ⌝ }
+{
+    let mut t = l;
+    t.before[i] = passed;
+    t.lengths[i] = length;
+    t.refused[i] = false;
+    t
+}
+
+// The lines with the invoke of client `i` + 1 to be offered again.
+pub fn with_refused(l: Lines, i: usize) -> Lines
+    requires { ⌜ i < 8 ⌝ }
+    ensures { λ r. ⌜ r ≡ withRefused l i ⌝ }
+{
+    let mut t = l;
+    t.refused[i] = true;
+    t
+}
+
+// The lines without the reply to client `i` + 1.
+pub fn without_reply(l: Lines, i: usize) -> Lines
+    requires { ⌜ i < 8 ⌝ }
+    ensures { λ r. ⌜ r ≡ withoutReply l i ⌝ }
+{
+    let mut t = l;
+    t.lengths[i] = 0;
+    t
+}
+
+// The lines without the broadcast that is next to client `i` + 1.
+pub fn without_broadcast(l: Lines, i: usize, passed: u32) -> Lines
+    requires { ⌜ (i < 8) × (broadcastFirst l i passed ≡ true) ⌝ }
+    ensures { λ r. ⌜ r ≡ withoutBroadcast l i ⌝ }
+{
+    let next = l.next;
+    let taken = next[i] + 1;
+    let mut t = l;
+    t.next[i] = taken;
+    t
+}
+
+// Whether the head of the line to client `i` + 1 is its reply.
+pub fn reply_first(l: Lines, i: usize) -> bool
+    requires { ⌜ i < 8 ⌝ }
+    ensures { λ r. ⌜ r ≡ replyFirst l i ⌝ }
+{
+    let next = l.next;
+    let before = l.before;
+    let lengths = l.lengths;
+    (lengths[i] != 0) & (lengths[i] <= 1315) & (before[i] == next[i])
+}
+
+// Whether a broadcast is next to client `i` + 1, where it is not the reply.
+pub fn broadcast_first(l: Lines, i: usize, passed: u32) -> bool
+    requires { ⌜ i < 8 ⌝ }
+    ensures { λ r. ⌜ r ≡ broadcastFirst l i passed ⌝ }
+{
+    let next = l.next;
+    next[i] < passed
+}
+
+// Whether 256 or more broadcasts are not yet taken by a client.
+fn late(next: u32, passed: u32) -> bool
+    ensures { λ r. ⌜ r ≡ leb (next + 256) passed ⌝ }
+{
+    next as u64 + 256 <= passed as u64
+}
+
+// Whether 256 or more broadcasts are not yet taken by some client.
+pub fn full(next: [u32; 8], passed: u32) -> bool
+    ensures { λ r. ⌜ r ≡ isFull next passed 8 ⌝ }
+{
+    let mut f = false;
+    let mut i = 0usize;
+    while i < 8 {
+        let one = late(next[i], passed);
+        f = f | one;
+        i += 1;
+    }
+    f
+}
+
+// Whether the server has a place to give.
+pub fn has_place(s: Server) -> bool
+    ensures { λ r. ⌜ r ≡ hasPlace s ⌝ }
+{
+    if s.passed <= s.placed {
+        if s.placed - s.passed < 32 {
+            s.placed < 1000000
+        } else {
+            false
+        }
+    } else {
+        false
+    }
 }

@@ -1,0 +1,4 @@
+pub mod ServerWrote
+pub mod Laws
+pub mod Offers
+pub mod Moves

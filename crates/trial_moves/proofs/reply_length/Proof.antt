@@ -1,0 +1,28 @@
+use Prim.Native.Nat.{_+_}
+use native.Mathlib.Omega.{arith}
+use borrow.Author.Needs.{needs}
+use Rattle.trial_moves.proofs.reply_length.Statement.{statement}
+use Rattle.trial_moves.proofs.reply_length.Tie as tie
+
+add-result : tie.Need-add-result
+add-result c = search needs
+
+shared-slice-read-result : tie.Need-shared-slice-read-result
+shared-slice-read-result c = search needs
+
+cast-result : tie.Need-cast-result
+cast-result c = omega (arith, c .shared-slice-known .given (c .before .args .at + 2))
+
+mul-result : tie.Need-mul-result
+mul-result c = record { fits = omega (arith, c .shared-slice-known .given (c .before .args .at + 2)) }
+
+add-result-2 : tie.Need-add-result-2
+add-result-2 c = record { fits = omega (arith, c .shared-slice-known .given (c .before .args .at + 2)) }
+
+returns : tie.Need-returns
+returns c = search needs
+
+pub reply-length-spec : {M : Type 1} → statement M
+reply-length-spec =
+    tie.close
+    (tie.spec add-result shared-slice-read-result cast-result mul-result add-result-2 returns)
