@@ -1,20 +1,22 @@
 -- The sets of values reached, as lists of marks, and what they say of a conflict among operations on one cell.
 use Prim.Native.Nat.{ℕ, _+_, _<_, _≤_, zero, suc}
 use mathlib.Core.Path.{_≡_, refl, sym, _∙_, subst, subst₂}
+use mathlib.Core.Bool.{Bool, true, false}
 use mathlib.Core.List.{List, [], _∷_}
 use mathlib.Core.Logic.{_⊎_, ⊎-elim}
 use native.Mathlib.Decide.{ℕ-discrete, decLt}
 use native.Mathlib.Nat.{le-of-suc-le-suc, not-suc-le-zero}
 use native.Mathlib.Omega.{arith}
 use native.Mathlib.Numerals.{add-one}
-use lib.ListN.{length, getD, set, take, drop, drop-of-length-le}
+use lib.ListN.{length, getD, set, replicate, length-replicate, length-set, getD-replicate, take, drop, drop-of-length-le}
 use lib.Seq.{getD-set-same, getD-set-other, drop-cons, length-take-le, getD-take}
 use Rattle.operation.specs.declared.Operation.{Operation}
 use Rattle.operation.specs.Operation.{Response, value, response}
 use Rattle.operation.specs.Operation.{noOp}
-use Rattle.conflict.specs.declared.Marks.{Marks}
-use Rattle.conflict.specs.Reach.{Has, Moved, marksAt, FirstMarks, Differs, here, step, skip, runs}
-use Rattle.conflict.proofs.Marked.{below}
+use Rattle.conflict.proofs.Meaning.{clash}
+use Rattle.conflict_marks.proofs.Stored.{repeated}
+use Rattle.conflict_marks.specs.Marks.{Has, Moved, marksAt, Widened}
+use Rattle.conflict.specs.Reach.{Differs, here, step, skip, runs}
 
 -- Sets of states, P, that hold with each state and the own operations that are left the state after the next own operation, and in which no own response differs.
 module _ {S : Type 0} (val : Operation → S → S) (res : Operation → S → Response) (P : S → S → List Operation → Type 0)
@@ -52,6 +54,35 @@ ran-suc s [] j h = absurd (not-suc-le-zero h)
 ran-suc s (w ∷ ws) zero h = refl
 ran-suc s (w ∷ ws) (suc j) h = ran-suc (value w s) ws j (le-of-suc-le-suc h)
 
+-- Only the start value, at 0, is marked.
+pub record FirstMarks (start : ℕ) (r : List (List Bool)) : Type 0 where
+  pub long : (j : ℕ) → j < 33 → length (marksAt r j) ≡ 256
+  pub first : Has (marksAt r 0) start
+  pub only : (j v : ℕ) → Has (marksAt r j) v → (j ≡ 0) × (v ≡ start)
+
+only-start : (start v : ℕ) → Has (set (replicate 256 false) start true) v → v ≡ start
+only-start start v o = go (ℕ-discrete v start)
+  where
+    go : Dec (v ≡ start) → v ≡ start
+    go (yes p) = p
+    go (no n) = absurd (clash (getD-set-other (replicate 256 false) start v true false n ∙ repeated (λ b. b ≡ false) false false refl refl 256 v) o)
+
+pub first-marks : (start : ℕ) → start < 256 → FirstMarks start (set (replicate 256 false) start true ∷ replicate 32 (replicate 256 false))
+first-marks start h = record {
+  long = long;
+  first = getD-set-same (replicate 256 false) start true false (omega (arith, length-replicate 256 false));
+  only = only;
+}
+  where
+    long : (j : ℕ) → j < 33 → length (marksAt (set (replicate 256 false) start true ∷ replicate 32 (replicate 256 false)) j) ≡ 256
+    long zero lt = length-set (replicate 256 false) start true ∙ length-replicate 256 false
+    long (suc j) lt = rw (getD-replicate {A = List Bool} 32 j (replicate 256 false) [] (le-of-suc-le-suc lt)) (length-replicate 256 false)
+
+    only : (j v : ℕ) → Has (marksAt (set (replicate 256 false) start true ∷ replicate 32 (replicate 256 false)) j) v → (j ≡ 0) × (v ≡ start)
+    only zero v o = (refl, only-start start v o)
+    only (suc j) v o =
+        absurd (repeated (λ s. Has s v → ⊥) (replicate 256 false) [] (λ o. clash (repeated (λ b. b ≡ false) false false refl refl 256 v) o) (λ o. clash refl o) 32 j o)
+
 module _ (start : ℕ) (ws : List Operation) where
   abbrev pub alone : ℕ → ℕ
   alone j = ran start (take j ws)
@@ -67,19 +98,19 @@ module _ (start : ℕ) (ws : List Operation) where
   from-step j v h d = rw (drop-cons ws j noOp h) (step (rw (ran-suc start ws j h) at d))
 
   -- The marks l stand for a conflict: with the others' operations os left.
-  pub record Held (Goal : Type 0) (os : List Operation) (l : List Marks) : Type 0 where
-    pub long : (j : ℕ) → j ≤ length ws → length (marksAt l j .at) ≡ 256
+  pub record Held (Goal : Type 0) (os : List Operation) (l : List (List Bool)) : Type 0 where
+    pub long : (j : ℕ) → j ≤ length ws → length (marksAt l j) ≡ 256
     pub sound : (j v : ℕ) → j ≤ length ws → Has (marksAt l j) v → From j v os → Goal
     pub complete : Goal → (j : ℕ) × (v : ℕ) × (j ≤ length ws) × Has (marksAt l j) v × From j v os
 
   -- Below n own operations, no own response differs, and the values after the next own operation are marked.
-  abbrev pub Closed : List Marks → ℕ → Type 0
+  abbrev pub Closed : List (List Bool) → ℕ → Type 0
   Closed l n = (j v : ℕ) → j < n → Has (marksAt l j) v → (response (opNo ws j) v ≡ response (opNo ws j) (alone j)) × Has (marksAt l (suc j)) (value (opNo ws j) v)
 
-  abbrev In : List Marks → ℕ → ℕ → List Operation → Type 0
+  abbrev In : List (List Bool) → ℕ → ℕ → List Operation → Type 0
   In l v u rest = (j : ℕ) × (j ≤ length ws) × Has (marksAt l j) v × (u ≡ alone j) × (rest ≡ drop j ws)
 
-  in-closed : (l : List Marks) → Closed l (length ws) → (v u : ℕ) (w : Operation) (rest : List Operation) → In l v u (w ∷ rest)
+  in-closed : (l : List (List Bool)) → Closed l (length ws) → (v u : ℕ) (w : Operation) (rest : List Operation) → In l v u (w ∷ rest)
       → (response w v ≡ response w u) × In l (value w v) (value w u) rest
   in-closed l cl v u w rest (j, hj, has, eu, ew) = go (decLt j (length ws))
     where
@@ -95,11 +126,11 @@ module _ (start : ℕ) (ws : List Operation) where
           let z : _≡_ {A = ℕ} 0 1 = cc in absurd (omega arith)
 
   -- With none of the others' operations left there is no conflict.
-  pub none-left : {Goal : Type 0} (l : List Marks) → Closed l (length ws) → Held Goal [] l → Goal → ⊥
+  pub none-left : {Goal : Type 0} (l : List (List Bool)) → Closed l (length ws) → Held Goal [] l → Goal → ⊥
   none-left l cl h g = let (j, v, hj, has, d) = h .complete g in final (value) (response) (In l) (in-closed l cl) d (j, hj, has, refl, refl)
 
   -- Another's operation, run or left out.
-  pub widens : {Goal : Type 0} {o : Operation} {os : List Operation} (l l′ : List Marks) → Closed l (length ws) → Held Goal (o ∷ os) l
+  pub widens : {Goal : Type 0} {o : Operation} {os : List Operation} (l l′ : List (List Bool)) → Closed l (length ws) → Held Goal (o ∷ os) l
       → ((j : ℕ) → j ≤ length ws → Moved o (marksAt l j) (marksAt l j) (marksAt l′ j)) → Held Goal os l′
   widens {Goal} {o} {os} l l′ cl h mv = record { long = λ j hj. mv j hj .long; sound = sound; complete = complete }
     where
@@ -118,11 +149,11 @@ module _ (start : ℕ) (ws : List Operation) where
           (p .0, v′, p .1, p .2, subst₂ (λ x y. Differs (value) (response) v′ x os y) (p .3) (p .4) d′)
 
   -- A differing response.
-  pub found : {Goal : Type 0} {os : List Operation} {l : List Marks} (j v : ℕ) → Held Goal os l → j < length ws → Has (marksAt l j) v
+  pub found : {Goal : Type 0} {os : List Operation} {l : List (List Bool)} (j v : ℕ) → Held Goal os l → j < length ws → Has (marksAt l j) v
       → (response (opNo ws j) v ≡ response (opNo ws j) (alone j) → ⊥) → Goal
   found j v h lt has n = h .sound j v (omega arith) has (from-here j v lt n)
 
-  pub begins : {os : List Operation} {l : List Marks} → FirstMarks start l → length ws < 33 → Held (Differs (value) (response) start start os ws) os l
+  pub begins : {os : List Operation} {l : List (List Bool)} → FirstMarks start l → length ws < 33 → Held (Differs (value) (response) start start os ws) os l
   unfolding ran
   begins {os} {l} f short = record {
     long = λ j hj. f .long j (omega arith);
@@ -131,12 +162,12 @@ module _ (start : ℕ) (ws : List Operation) where
   }
 
   -- One own operation run on the values of its set.
-  module _ (l : List Marks) (j : ℕ) (into : Marks) (lt : j < length ws) (fits : suc j < length l) where
+  module _ (l : List (List Bool)) (j : ℕ) (into : List Bool) (lt : j < length ws) (fits : suc j < length l) where
     stored : (i : ℕ) → (i ≡ suc j → ⊥) → marksAt (set l (suc j) into) i ≡ marksAt l i
-    stored i n = getD-set-other l (suc j) i into (record { at = [] }) n
+    stored i n = getD-set-other l (suc j) i into [] n
 
     new : marksAt (set l (suc j) into) (suc j) ≡ into
-    new = getD-set-same l (suc j) into (record { at = [] }) fits
+    new = getD-set-same l (suc j) into [] fits
 
     pub closes : Closed l j → ((v : ℕ) → Has (marksAt l j) v → (response (opNo ws j) v ≡ response (opNo ws j) (alone j)) × Has into (value (opNo ws j) v))
         → Closed (set l (suc j) into) (suc j)
@@ -149,13 +180,13 @@ module _ (start : ℕ) (ws : List Operation) where
         go (yes e) = rw (e, new) (own v (rw e at has′))
         go (no n) = rw (stored (suc i) (λ e. omega arith)) (cl i v (omega arith) has′)
 
-    pub adds : {Goal : Type 0} {os : List Operation} → Held Goal os l → length (into .at) ≡ 256
+    pub adds : {Goal : Type 0} {os : List Operation} → Held Goal os l → length (into) ≡ 256
         → ((x : ℕ) → Has (marksAt l (suc j)) x → Has into x)
         → ((x : ℕ) → Has into x → Has (marksAt l (suc j)) x ⊎ ((y : ℕ) × Has (marksAt l j) y × (x ≡ value (opNo ws j) y)))
         → Held Goal os (set l (suc j) into)
     adds {Goal} {os} h li kept only = record { long = λ i hi. long i hi (ℕ-discrete i (suc j)); sound = λ i v hi has d. sound i v hi has d (ℕ-discrete i (suc j)); complete = complete }
       where
-        long : (i : ℕ) → i ≤ length ws → Dec (i ≡ suc j) → length (marksAt (set l (suc j) into) i .at) ≡ 256
+        long : (i : ℕ) → i ≤ length ws → Dec (i ≡ suc j) → length (marksAt (set l (suc j) into) i) ≡ 256
         long i hi (no n) = rw (stored i n) (h .long i hi)
         long i hi (yes e) = rw (e, new) li
 
@@ -186,15 +217,14 @@ module _ (start m : ℕ) (own : List Operation) (hm : m ≤ length own) where
   next j u h e = rw (e, add-one j, ← operation j h) (sym (ran-suc start (take m own) j (omega (arith, count))))
 
   -- The own operation j run on the whole set of values.
-  pub own-step : {Goal : Type 0} {os : List Operation} {l : List Marks} {into : Marks} (j u expected v : ℕ) → j < m → j + 1 < length l → u ≡ alone start (take m own) j
-      → expected ≡ response (opNo own j) u → 256 ≤ v
+  pub own-step : {Goal : Type 0} {os : List Operation} {l : List (List Bool)} {into : List Bool} (j u : ℕ) → j < m → j + 1 < length l → u ≡ alone start (take m own) j
       → Moved (opNo own j) (marksAt l j) (marksAt l (j + 1)) into
-      → ((x : ℕ) → x < v → Has (marksAt l j) x → response (opNo own j) x ≡ expected)
+      → ((x : ℕ) → Has (marksAt l j) x → response (opNo own j) x ≡ response (opNo own j) u)
       → Closed start (take m own) l j → Held start (take m own) Goal os l
       → Closed start (take m own) (set l (j + 1) into) (j + 1) × Held start (take m own) Goal os (set l (j + 1) into)
-  own-step {Goal} {os} {l} {into} j u expected v h fits eu ee hv p same cl held =
+  own-step {Goal} {os} {l} {into} j u h fits eu p same cl held =
       rw (add-one j) (
-        closes start (take m own) l j into lt fits′ cl (λ x has. rw (operation j h, ← eu) (same x (under x has) has ∙ ee, p .ran x has)),
+        closes start (take m own) l j into lt fits′ cl (λ x has. rw (operation j h, ← eu) (same x has, p .ran x has)),
         adds start (take m own) l j into lt fits′ held (p .long) (rw (add-one j) at (p .kept)) (rw (operation j h) (rw (add-one j) at (p .only))),
       )
     where
@@ -204,32 +234,28 @@ module _ (start m : ℕ) (own : List Operation) (hm : m ≤ length own) where
       fits′ : suc j < length l
       fits′ = omega arith
 
-      under : (x : ℕ) → Has (marksAt l j) x → x < v
-      under x has = omega (arith, below (marksAt l j) x (held .long j (omega (arith, count))) has)
-
-  pub own-long : {Goal : Type 0} {os : List Operation} {l : List Marks} → Held start (take m own) Goal os l → (j : ℕ) → j ≤ m → length (marksAt l j .at) ≡ 256
+  pub own-long : {Goal : Type 0} {os : List Operation} {l : List (List Bool)} → Held start (take m own) Goal os l → (j : ℕ) → j ≤ m → length (marksAt l j) ≡ 256
   own-long held j h = held .long j (omega (arith, count))
 
-  pub differs-at : {Goal : Type 0} {os : List Operation} {l : List Marks} (j u expected v : ℕ) → Held start (take m own) Goal os l → j < m → u ≡ alone start (take m own) j
-      → expected ≡ response (opNo own j) u → Has (marksAt l j) v → (response (opNo own j) v ≡ expected → ⊥) → Goal
-  differs-at j u expected v held h eu ee has n =
-      found start (take m own) j v held (omega (arith, count)) has (λ e. n ((rw (operation j h, ← eu) at e) ∙ sym ee))
+  pub differs-at : {Goal : Type 0} {os : List Operation} {l : List (List Bool)} (j u v : ℕ) → Held start (take m own) Goal os l → j < m → u ≡ alone start (take m own) j
+      → Has (marksAt l j) v → (response (opNo own j) v ≡ response (opNo own j) u → ⊥) → Goal
+  differs-at j u v held h eu has n = found start (take m own) j v held (omega (arith, count)) has (λ e. n (rw (operation j h, ← eu) at e))
 
-  whole : (l : List Marks) (j : ℕ) → j ≤ m → m ≤ j → Closed start (take m own) l j → Closed start (take m own) l (length (take m own))
+  whole : (l : List (List Bool)) (j : ℕ) → j ≤ m → m ≤ j → Closed start (take m own) l j → Closed start (take m own) l (length (take m own))
   whole l j h h′ cl i v lt has = cl i v (omega (arith, count)) has
 
   -- The others' operations are the first n of a list. All of them are done.
-  pub finished : {Goal : Type 0} {l : List Marks} (n : ℕ) (others : List Operation) → n ≤ length others → (i j : ℕ) → j ≤ m → m ≤ j → Closed start (take m own) l j
+  pub finished : {Goal : Type 0} {l : List (List Bool)} (n : ℕ) (others : List Operation) → n ≤ length others → (i j : ℕ) → j ≤ m → m ≤ j → Closed start (take m own) l j
       → Held start (take m own) Goal (drop i (take n others)) l → n ≤ i → Goal → ⊥
   finished {l = l} n others hn i j h h′ cl held hi =
       none-left start (take m own) l (whole l j h h′ cl) (rw (drop-of-length-le (take n others) {i = i} (omega (arith, length-take-le n others hn))) at held)
 
   -- The others' operation i, run or left out.
-  pub other-step : {Goal : Type 0} {l l′ : List Marks} (n : ℕ) (others : List Operation) → n ≤ length others → (i j : ℕ) → j ≤ m → m ≤ j → Closed start (take m own) l j
-      → Held start (take m own) Goal (drop i (take n others)) l → i < n → ((j : ℕ) → j ≤ m → Moved (opNo others i) (marksAt l j) (marksAt l j) (marksAt l′ j))
+  pub other-step : {Goal : Type 0} {l l′ : List (List Bool)} (n : ℕ) (others : List Operation) → n ≤ length others → (i j : ℕ) → j ≤ m → m ≤ j → Closed start (take m own) l j
+      → Held start (take m own) Goal (drop i (take n others)) l → i < n → Widened m (opNo others i) l l′
       → Held start (take m own) Goal (drop (i + 1) (take n others)) l′
   other-step {Goal} {l} {l′} n others hn i j h h′ cl held hi mv =
-      rw (add-one i) (widens start (take m own) l l′ (whole l j h h′ cl) held′ (λ j hj. mv j (omega (arith, count))))
+      rw (add-one i) (widens start (take m own) l l′ (whole l j h h′ cl) held′ (λ j hj. mv .each j (omega (arith, count))))
     where
       held′ : Held start (take m own) Goal (opNo others i ∷ drop (suc i) (take n others)) l
       held′ =

@@ -1,4 +1,4 @@
-use Prim.Native.Nat.{ℕ, _<_, _≤_, _-_}
+use Prim.Native.Nat.{ℕ, _<_, _≤_, _-_, _+_}
 use mathlib.Core.Path.{_≡_, refl, sym, _∙_}
 use mathlib.Core.Logic.{⊎-elim}
 use native.Mathlib.Omega.{arith}
@@ -6,45 +6,52 @@ use borrow.Author.Needs.{needs}
 use borrow.Author.Count.{below-more}
 use lib.ListN.{length, take, drop, length-set}
 use Rattle.operation.specs.Operation.{value, response}
-use Rattle.conflict.specs.Reach.{Has, Differs}
+use Rattle.conflict_marks.specs.Marks.{Has, Blank, marksAt}
+use Rattle.conflict_marks.proofs.Stored.{below, laid-blank, blank-first}
+use Rattle.conflict_marks.proofs.Moved.{own-moved}
+use Rattle.conflict_marks.proofs.Look.{none-other}
+use Rattle.conflict.specs.Reach.{Differs}
 use Rattle.conflict.proofs.Meaning.{clash}
-use Rattle.conflict.proofs.Reach.{ran-none, alone, Held, Closed, begins, count, next, own-step, own-long, differs-at, finished, other-step}
+use Rattle.conflict.proofs.Reach.{opNo, ran-none, first-marks, alone, Held, Closed, begins, count, next, own-step, own-long, differs-at, finished, other-step}
 use Rattle.conflict.proofs.conflict_at.Statement.{statement}
 use Rattle.conflict.proofs.conflict_at.Tie as tie
 
 abbrev Inv-loop2 : tie.InvT-loop2
-Inv-loop2 start n m others own reach i u j w expected from v₀ v =
-    (v ≤ 256) × (length (from .at) ≡ 256) × ((x : ℕ) → x < v → Has from x → response w x ≡ expected)
+Inv-loop2 start n m others own reach x wide i u j w expected v₀ v =
+    (v ≤ 256) × ((x : ℕ) → x < v → Has (marksAt reach j) x → response w x ≡ expected)
 
 abbrev μ-loop2 : tie.MeasureT-loop2
-μ-loop2 start n m others own reach i u j w expected from v₀ v = 256 - v
+μ-loop2 start n m others own reach x wide i u j w expected v₀ v = 256 - v
 
 abbrev Inv-loop : tie.InvT-loop
-Inv-loop start n m others own reach₀ i u₀ j₀ reach u j =
+Inv-loop start n m others own reach₀ x wide₀ i u₀ j₀ reach wide u j =
     (j ≤ m) × (u ≡ alone start (take m own) j) × (length reach ≡ 33) × Closed start (take m own) reach j
-    × Held start (take m own) (Differs value response start start (take n others) (take m own)) (drop i (take n others)) reach
+    × Held start (take m own) (Differs value response start start (take n others) (take m own)) (drop i (take n others)) reach × Blank wide
 
 abbrev μ-loop : tie.MeasureT-loop
-μ-loop start n m others own reach₀ i u₀ j₀ reach u j = m - j
+μ-loop start n m others own reach₀ x wide₀ i u₀ j₀ reach wide u j = m - j
 
 abbrev Inv-search : tie.InvT-search
-Inv-search start n m others own reach₀ i₀ reach i =
-    (i ≤ n) × (length reach ≡ 33) × Held start (take m own) (Differs value response start start (take n others) (take m own)) (drop i (take n others)) reach
+Inv-search start n m others own reach₀ x wide₀ i₀ reach wide i =
+    (i ≤ n) × (length reach ≡ 33)
+    × Held start (take m own) (Differs value response start start (take n others) (take m own)) (drop i (take n others)) reach × Blank wide
 
 abbrev μ-search : tie.MeasureT-search
-μ-search start n m others own reach₀ i₀ reach i = n - i
+μ-search start n m others own reach₀ x wide₀ i₀ reach wide i = n - i
 
-first-marks-requires :
-    tie.Need-first-marks-requires Inv-loop2 μ-loop2 Inv-loop μ-loop Inv-search μ-search
-first-marks-requires c κs = search needs
+index-1-reach : tie.Need-index-1-reach Inv-loop2 μ-loop2 Inv-loop μ-loop Inv-search μ-search
+index-1-reach c = search needs
+
+index-2-reach : tie.Need-index-2-reach Inv-loop2 μ-loop2 Inv-loop μ-loop Inv-search μ-search
+index-2-reach c = search needs
 
 search-holds : tie.Need-search-holds Inv-loop2 μ-loop2 Inv-loop μ-loop Inv-search μ-search
 search-holds c =
-    let a = c .before .args in
-    (omega arith, search needs, begins _ _ (c .first-marks .ensures) (omega (arith, count (a .start) (a .m) (a .t4) (search needs))))
+    let a = c .args in
+    (omega arith, search needs, begins _ _ (first-marks (a .start) (search needs)) (omega (arith, count (a .start) (a .m) (a .t4) (search needs))), blank-first)
 
 loop-holds : tie.Need-loop-holds Inv-loop2 μ-loop2 Inv-loop μ-loop Inv-search μ-search
-loop-holds c = (omega arith, sym (ran-none _), c .search .inv .1, (λ j v h. absurd (omega arith)), c .search .inv .2)
+loop-holds c = (omega arith, sym (ran-none _), c .search .inv .1, (λ j v h. absurd (omega arith)), c .search .inv .2, c .search .inv .3)
 
 mul-w : tie.Need-mul-w Inv-loop2 μ-loop2 Inv-loop μ-loop Inv-search μ-search
 mul-w c = search needs
@@ -56,22 +63,36 @@ response-to-requires :
     tie.Need-response-to-requires Inv-loop2 μ-loop2 Inv-loop μ-loop Inv-search μ-search
 response-to-requires c κs = search needs
 
-mul-from : tie.Need-mul-from Inv-loop2 μ-loop2 Inv-loop μ-loop Inv-search μ-search
-mul-from c = search needs
+mul-lay-out : tie.Need-mul-lay-out Inv-loop2 μ-loop2 Inv-loop μ-loop Inv-search μ-search
+mul-lay-out c = search needs
 
-array-copy-out-from :
-    tie.Need-array-copy-out-from Inv-loop2 μ-loop2 Inv-loop μ-loop Inv-search μ-search
-array-copy-out-from c = search needs
+index-1-lay-out : tie.Need-index-1-lay-out Inv-loop2 μ-loop2 Inv-loop μ-loop Inv-search μ-search
+index-1-lay-out c = search needs
+
+lay-out-requires : tie.Need-lay-out-requires Inv-loop2 μ-loop2 Inv-loop μ-loop Inv-search μ-search
+lay-out-requires c κs =
+    let a = c .before .before .before .before .before .before .before .args in
+    let l = c .before .before .before .before .before .loop in
+    (own-long (a .start) (a .m) (a .t4) (search needs) (l .inv .4) (l .j) (omega arith), l .inv .5)
+
+any-other-requires :
+    tie.Need-any-other-requires Inv-loop2 μ-loop2 Inv-loop μ-loop Inv-search μ-search
+any-other-requires c κs = laid-blank (c .before .lay-out .ensures)
 
 loop2-holds : tie.Need-loop2-holds Inv-loop2 μ-loop2 Inv-loop μ-loop Inv-search μ-search
-loop2-holds c =
-    let a = c .before .before .before .before .before .before .before .args in
-    let l = c .before .before .before .before .loop in
-    (omega arith, own-long (a .start) (a .m) (a .t4) (search needs) (l .inv .4) (l .j) (omega arith), λ x h. absurd (omega arith))
+loop2-holds c = (omega arith, λ x h. absurd (omega arith))
 
-element-copy-out-if1 :
-    tie.Need-element-copy-out-if1 Inv-loop2 μ-loop2 Inv-loop μ-loop Inv-search μ-search
-element-copy-out-if1 c = search needs
+mul-if2 : tie.Need-mul-if2 Inv-loop2 μ-loop2 Inv-loop μ-loop Inv-search μ-search
+mul-if2 c = search needs
+
+index-1-if2 : tie.Need-index-1-if2 Inv-loop2 μ-loop2 Inv-loop μ-loop Inv-search μ-search
+index-1-if2 c = search needs
+
+index-2-if2 : tie.Need-index-2-if2 Inv-loop2 μ-loop2 Inv-loop μ-loop Inv-search μ-search
+index-2-if2 c =
+    let a = c .before .before .before .before .before .before .before .before .before .before .before .before .before .args in
+    let l = c .before .before .before .before .before .before .before .before .before .before .before .loop in
+    search (needs, own-long (a .start) (a .m) (a .t4) (search needs) (l .inv .4) (l .j) (omega arith))
 
 cast-response-to : tie.Need-cast-response-to Inv-loop2 μ-loop2 Inv-loop μ-loop Inv-search μ-search
 cast-response-to c = search needs
@@ -90,32 +111,29 @@ loop2-again : tie.Need-loop2-again Inv-loop2 μ-loop2 Inv-loop μ-loop Inv-searc
 loop2-again c =
     let now = c .before .before .before .loop2 .inv in
     ⊎-elim
-    (λ w. (omega arith, now .1, below-more _ _ (now .2) (λ o. sym (w .1 .ensures) ∙ w .2 .left)))
-    (λ w. (omega arith, now .1, below-more _ _ (now .2) (λ o. absurd (clash (w .left) o))))
-    (c .if1 .came)
+    (λ w. (omega arith, below-more _ _ (now .1) (λ o. sym (w .1 .ensures) ∙ w .2 .left)))
+    (λ w. (omega arith, below-more _ _ (now .1) (λ o. absurd (clash (w .left) o))))
+    (c .if2 .came)
 
-add-into : tie.Need-add-into Inv-loop2 μ-loop2 Inv-loop μ-loop Inv-search μ-search
-add-into c = search needs
+moved-from-requires :
+    tie.Need-moved-from-requires Inv-loop2 μ-loop2 Inv-loop μ-loop Inv-search μ-search
+moved-from-requires c κs = search needs
 
-mul-into : tie.Need-mul-into Inv-loop2 μ-loop2 Inv-loop μ-loop Inv-search μ-search
-mul-into c = search needs
+add-run-into : tie.Need-add-run-into Inv-loop2 μ-loop2 Inv-loop μ-loop Inv-search μ-search
+add-run-into c = search needs
 
-array-copy-out-into :
-    tie.Need-array-copy-out-into Inv-loop2 μ-loop2 Inv-loop μ-loop Inv-search μ-search
-array-copy-out-into c = search needs
+mul-run-into : tie.Need-mul-run-into Inv-loop2 μ-loop2 Inv-loop μ-loop Inv-search μ-search
+mul-run-into c = search needs
 
-moved-requires : tie.Need-moved-requires Inv-loop2 μ-loop2 Inv-loop μ-loop Inv-search μ-search
-moved-requires c κs = search needs
+index-1-run-into : tie.Need-index-1-run-into Inv-loop2 μ-loop2 Inv-loop μ-loop Inv-search μ-search
+index-1-run-into c = search needs
 
-add-reach : tie.Need-add-reach Inv-loop2 μ-loop2 Inv-loop μ-loop Inv-search μ-search
-add-reach c = search needs
-
-mul-reach : tie.Need-mul-reach Inv-loop2 μ-loop2 Inv-loop μ-loop Inv-search μ-search
-mul-reach c = search needs
-
-array-set-from-reach :
-    tie.Need-array-set-from-reach Inv-loop2 μ-loop2 Inv-loop μ-loop Inv-search μ-search
-array-set-from-reach c = search needs
+run-into-requires :
+    tie.Need-run-into-requires Inv-loop2 μ-loop2 Inv-loop μ-loop Inv-search μ-search
+run-into-requires c κs =
+    let a = c .before .before .before .before .before .before .before .before .before .before .before .before .before .before .args in
+    let l = c .before .before .before .before .before .before .before .before .before .before .before .before .loop in
+    (c .before .before .moved-from .ensures .0, own-long (a .start) (a .m) (a .t4) (search needs) (l .inv .4) (l .j + 1) (omega arith))
 
 value-after-requires :
     tie.Need-value-after-requires Inv-loop2 μ-loop2 Inv-loop μ-loop Inv-search μ-search
@@ -129,22 +147,29 @@ loop-less c = search needs
 
 loop-again : tie.Need-loop-again Inv-loop2 μ-loop2 Inv-loop μ-loop Inv-search μ-search
 loop-again c =
-    let a = c .before .before .before .before .before .before .before .before .before .before .before .before .args in
-    let l = c .before .before .before .before .before .before .before .before .before .loop in
-    let x = c .before .before .before .before .before .before .response-to in
-    let k = c .before .before .before .before .loop2 in
-    let r = own-step (a .start) (a .m) (a .t4) (search needs) (l .j) (l .u) (x .result) (k .v) (omega arith) (omega arith) (l .inv .1)
-    (x .ensures) (omega arith) (c .before .moved .ensures) (k .inv .2) (l .inv .3) (l .inv .4) in (
+    let a = c .before .before .before .before .before .before .before .before .before .before .before .before .before .before .before .before .args in
+    let l = c .before .before .before .before .before .before .before .before .before .before .before .before .before .before .loop in
+    let x = c .before .before .before .before .before .before .before .before .before .before .before .response-to in
+    let y = c .before .before .before .before .before .before .before .before .lay-out .ensures in
+    let long = own-long (a .start) (a .m) (a .t4) (search needs) (l .inv .4) (l .j) (omega arith) in
+    let same : (v : ℕ) → Has (marksAt (l .reach) (l .j)) v → response (opNo (a .t4) (l .j)) v ≡ response (opNo (a .t4) (l .j)) (l .u) =
+    ⊎-elim
+    (λ s v o. s .1 .inv .1 v (omega (arith, below (marksAt (l .reach) (l .j)) v long o, s .2 .left)) o ∙ x .ensures)
+    (λ s v o. none-other _ _ y (c .before .before .before .before .before .before .any-other .ensures) (s .left) v o)
+    (c .before .before .before .before .before .if1 .came) in
+    let moved = own-moved (l .u) long y (rw (x .ensures) at (c .before .before .before .before .moved-from .ensures .1)) same (c .before .run-into .ensures) in
+    let r = own-step (a .start) (a .m) (a .t4) (search needs) (l .j) (l .u) (omega arith) (omega arith) (l .inv .1) moved same (l .inv .3) (l .inv .4) in (
       omega arith,
       c .value-after .ensures ∙ next (a .start) (a .m) (a .t4) (search needs) (l .j) (l .u) (omega arith) (l .inv .1),
       simp length-set (l .inv .2),
       r .0,
       r .1,
+      laid-blank y,
     )
 
 returns : tie.Need-returns Inv-loop2 μ-loop2 Inv-loop μ-loop Inv-search μ-search
 returns c =
-    let a = c .before .before .before .before .before .args in
+    let a = c .before .before .before .before .args in
     let l = c .before .before .loop in (
       (λ e. absurd (clash refl e)),
       λ g. absurd (finished (a .start) (a .m) (a .t4) (search needs) (a .n) (a .t2) (search needs) (c .before .before .before .search .i) (l .j) (omega arith) (omega arith) (l .inv .3) (l .inv .4) (omega arith) g),
@@ -156,8 +181,11 @@ mul-o c = search needs
 array-copy-out-o : tie.Need-array-copy-out-o Inv-loop2 μ-loop2 Inv-loop μ-loop Inv-search μ-search
 array-copy-out-o c = search needs
 
-widened-requires : tie.Need-widened-requires Inv-loop2 μ-loop2 Inv-loop μ-loop Inv-search μ-search
-widened-requires c κs = search needs
+widen-requires : tie.Need-widen-requires Inv-loop2 μ-loop2 Inv-loop μ-loop Inv-search μ-search
+widen-requires c κs =
+    let a = c .before .before .before .before .before .before .args in
+    let l = c .before .before .before .before .loop in
+    (omega arith, l .inv .2, λ j h. own-long (a .start) (a .m) (a .t4) (search needs) (l .inv .4) j h)
 
 add-i : tie.Need-add-i Inv-loop2 μ-loop2 Inv-loop μ-loop Inv-search μ-search
 add-i c = search needs
@@ -168,18 +196,19 @@ search-less c = search needs
 search-again : tie.Need-search-again Inv-loop2 μ-loop2 Inv-loop μ-loop Inv-search μ-search
 search-again c =
     let a = c .before .before .before .before .before .before .before .args in
-    let l = c .before .before .before .before .loop in (
+    let l = c .before .before .before .before .before .loop in (
       omega arith,
-      search needs,
-      other-step (a .start) (a .m) (a .t4) (search needs) (a .n) (a .t2) (search needs) (c .before .before .before .before .before .search .i) (l .j) (omega arith) (omega arith) (l .inv .3) (l .inv .4) (omega arith) (c .widened .ensures),
+      c .widen .ensures .long,
+      other-step (a .start) (a .m) (a .t4) (search needs) (a .n) (a .t2) (search needs) (c .before .before .before .before .before .before .search .i) (l .j) (omega arith) (omega arith) (l .inv .3) (l .inv .4) (omega arith) (c .widen .ensures),
+      l .inv .5,
     )
 
 returns-2 : tie.Need-returns-2 Inv-loop2 μ-loop2 Inv-loop μ-loop Inv-search μ-search
 returns-2 c =
-    let a = c .before .before .before .before .before .before .before .before .before .before .before .before .before .args in
-    let l = c .before .before .before .before .before .before .before .before .before .before .loop in
-    let x = c .before .before .before .before .before .before .before .response-to in (
-      (λ e. differs-at (a .start) (a .m) (a .t4) (search needs) (l .j) (l .u) (x .result) (c .before .before .before .before .before .loop2 .v) (l .inv .4) (omega arith) (l .inv .1) (x .ensures) (c .before .before .if1 .taken) (λ e. c .if2 .taken (c .before .response-to2 .ensures ∙ e))),
+    let a = c .before .before .before .before .before .before .before .before .before .before .before .before .before .before .before .before .before .args in
+    let l = c .before .before .before .before .before .before .before .before .before .before .before .before .before .before .before .loop in
+    let x = c .before .before .before .before .before .before .before .before .before .before .before .before .response-to in (
+      (λ e. differs-at (a .start) (a .m) (a .t4) (search needs) (l .j) (l .u) (c .before .before .before .before .before .loop2 .v) (l .inv .4) (omega arith) (l .inv .1) (c .before .before .if2 .taken) (λ e. c .if3 .taken (c .before .response-to2 .ensures ∙ e ∙ sym (x .ensures)))),
       λ g. refl,
     )
 
@@ -193,28 +222,31 @@ conflict-at-spec =
     μ-loop
     Inv-search
     μ-search
-    first-marks-requires
+    index-1-reach
+    index-2-reach
     search-holds
     loop-holds
     mul-w
     array-copy-out-w
     response-to-requires
-    mul-from
-    array-copy-out-from
+    mul-lay-out
+    index-1-lay-out
+    lay-out-requires
+    any-other-requires
     loop2-holds
-    element-copy-out-if1
+    mul-if2
+    index-1-if2
+    index-2-if2
     cast-response-to
     response-to-requires-2
     add-v
     loop2-less
     loop2-again
-    add-into
-    mul-into
-    array-copy-out-into
-    moved-requires
-    add-reach
-    mul-reach
-    array-set-from-reach
+    moved-from-requires
+    add-run-into
+    mul-run-into
+    index-1-run-into
+    run-into-requires
     value-after-requires
     add-j
     loop-less
@@ -222,7 +254,7 @@ conflict-at-spec =
     returns
     mul-o
     array-copy-out-o
-    widened-requires
+    widen-requires
     add-i
     search-less
     search-again
