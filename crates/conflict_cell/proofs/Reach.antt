@@ -1,22 +1,19 @@
--- The sets of values reached, as lists of marks, and what they say of a conflict among operations on one cell.
-use Prim.Native.Nat.{ℕ, _+_, _<_, _≤_, zero, suc}
+-- The sets of values reached, as rows of marks, and what they say of a conflict among operations on one cell.
+use Prim.Native.Nat.{ℕ, _<_, _≤_, zero, suc}
 use mathlib.Core.Path.{_≡_, refl, sym, _∙_, subst, subst₂}
-use mathlib.Core.Bool.{Bool, true, false}
+use mathlib.Core.Bool.{Bool}
 use mathlib.Core.List.{List, [], _∷_}
 use mathlib.Core.Logic.{_⊎_, ⊎-elim}
 use native.Mathlib.Decide.{ℕ-discrete, decLt}
 use native.Mathlib.Nat.{le-of-suc-le-suc, not-suc-le-zero}
 use native.Mathlib.Omega.{arith}
-use native.Mathlib.Numerals.{add-one}
-use lib.ListN.{length, getD, set, replicate, length-replicate, length-set, getD-replicate, take, drop, drop-of-length-le}
-use lib.Seq.{getD-set-same, getD-set-other, drop-cons, length-take-le, getD-take}
+use lib.ListN.{length, getD, set, take, drop, drop-of-length-le}
+use lib.Seq.{getD-set-same, getD-set-other, drop-cons}
 use Rattle.operation.specs.declared.Operation.{Operation}
-use Rattle.operation.specs.Operation.{Response, value, response}
-use Rattle.operation.specs.Operation.{noOp}
-use Rattle.conflict.proofs.Meaning.{clash}
-use Rattle.conflict_marks.proofs.Stored.{repeated}
-use Rattle.conflict_marks.specs.Marks.{Has, Moved, marksAt, Widened}
-use Rattle.conflict.specs.Reach.{Differs, here, step, skip, runs}
+use Rattle.operation.specs.Operation.{Response, noOp, value, response}
+use Rattle.conflict_marks.specs.Marks.{Has, Moved, marksAt}
+use Rattle.conflict_cell.specs.Differs.{Differs, here, step, skip, runs}
+use Rattle.conflict_cell.proofs.First.{FirstMarks}
 
 -- Sets of states, P, that hold with each state and the own operations that are left the state after the next own operation, and in which no own response differs.
 module _ {S : Type 0} (val : Operation → S → S) (res : Operation → S → Response) (P : S → S → List Operation → Type 0)
@@ -53,35 +50,6 @@ unfolding ran
 ran-suc s [] j h = absurd (not-suc-le-zero h)
 ran-suc s (w ∷ ws) zero h = refl
 ran-suc s (w ∷ ws) (suc j) h = ran-suc (value w s) ws j (le-of-suc-le-suc h)
-
--- Only the start value, at 0, is marked.
-pub record FirstMarks (start : ℕ) (r : List (List Bool)) : Type 0 where
-  pub long : (j : ℕ) → j < 33 → length (marksAt r j) ≡ 256
-  pub first : Has (marksAt r 0) start
-  pub only : (j v : ℕ) → Has (marksAt r j) v → (j ≡ 0) × (v ≡ start)
-
-only-start : (start v : ℕ) → Has (set (replicate 256 false) start true) v → v ≡ start
-only-start start v o = go (ℕ-discrete v start)
-  where
-    go : Dec (v ≡ start) → v ≡ start
-    go (yes p) = p
-    go (no n) = absurd (clash (getD-set-other (replicate 256 false) start v true false n ∙ repeated (λ b. b ≡ false) false false refl refl 256 v) o)
-
-pub first-marks : (start : ℕ) → start < 256 → FirstMarks start (set (replicate 256 false) start true ∷ replicate 32 (replicate 256 false))
-first-marks start h = record {
-  long = long;
-  first = getD-set-same (replicate 256 false) start true false (omega (arith, length-replicate 256 false));
-  only = only;
-}
-  where
-    long : (j : ℕ) → j < 33 → length (marksAt (set (replicate 256 false) start true ∷ replicate 32 (replicate 256 false)) j) ≡ 256
-    long zero lt = length-set (replicate 256 false) start true ∙ length-replicate 256 false
-    long (suc j) lt = rw (getD-replicate {A = List Bool} 32 j (replicate 256 false) [] (le-of-suc-le-suc lt)) (length-replicate 256 false)
-
-    only : (j v : ℕ) → Has (marksAt (set (replicate 256 false) start true ∷ replicate 32 (replicate 256 false)) j) v → (j ≡ 0) × (v ≡ start)
-    only zero v o = (refl, only-start start v o)
-    only (suc j) v o =
-        absurd (repeated (λ s. Has s v → ⊥) (replicate 256 false) [] (λ o. clash (repeated (λ b. b ≡ false) false false refl refl 256 v) o) (λ o. clash refl o) 32 j o)
 
 module _ (start : ℕ) (ws : List Operation) where
   abbrev pub alone : ℕ → ℕ
@@ -204,62 +172,3 @@ module _ (start : ℕ) (ws : List Operation) where
 
         complete : Goal → (i : ℕ) × (v : ℕ) × (i ≤ length ws) × Has (marksAt (set l (suc j) into) i) v × From i v os
         complete g = let (i, v, hi, has, d) = h .complete g in (i, v, hi, keep i v has (ℕ-discrete i (suc j)), d)
-
--- The own operations are the first m of a list.
-module _ (start m : ℕ) (own : List Operation) (hm : m ≤ length own) where
-  pub count : length (take m own) ≡ m
-  count = length-take-le m own hm
-
-  operation : (j : ℕ) → j < m → opNo (take m own) j ≡ opNo own j
-  operation j h = getD-take m own j noOp h
-
-  pub next : (j u : ℕ) → j < m → u ≡ alone start (take m own) j → value (opNo own j) u ≡ alone start (take m own) (j + 1)
-  next j u h e = rw (e, add-one j, ← operation j h) (sym (ran-suc start (take m own) j (omega (arith, count))))
-
-  -- The own operation j run on the whole set of values.
-  pub own-step : {Goal : Type 0} {os : List Operation} {l : List (List Bool)} {into : List Bool} (j u : ℕ) → j < m → j + 1 < length l → u ≡ alone start (take m own) j
-      → Moved (opNo own j) (marksAt l j) (marksAt l (j + 1)) into
-      → ((x : ℕ) → Has (marksAt l j) x → response (opNo own j) x ≡ response (opNo own j) u)
-      → Closed start (take m own) l j → Held start (take m own) Goal os l
-      → Closed start (take m own) (set l (j + 1) into) (j + 1) × Held start (take m own) Goal os (set l (j + 1) into)
-  own-step {Goal} {os} {l} {into} j u h fits eu p same cl held =
-      rw (add-one j) (
-        closes start (take m own) l j into lt fits′ cl (λ x has. rw (operation j h, ← eu) (same x has, p .ran x has)),
-        adds start (take m own) l j into lt fits′ held (p .long) (rw (add-one j) at (p .kept)) (rw (operation j h) (rw (add-one j) at (p .only))),
-      )
-    where
-      lt : j < length (take m own)
-      lt = omega (arith, count)
-
-      fits′ : suc j < length l
-      fits′ = omega arith
-
-  pub own-long : {Goal : Type 0} {os : List Operation} {l : List (List Bool)} → Held start (take m own) Goal os l → (j : ℕ) → j ≤ m → length (marksAt l j) ≡ 256
-  own-long held j h = held .long j (omega (arith, count))
-
-  pub differs-at : {Goal : Type 0} {os : List Operation} {l : List (List Bool)} (j u v : ℕ) → Held start (take m own) Goal os l → j < m → u ≡ alone start (take m own) j
-      → Has (marksAt l j) v → (response (opNo own j) v ≡ response (opNo own j) u → ⊥) → Goal
-  differs-at j u v held h eu has n = found start (take m own) j v held (omega (arith, count)) has (λ e. n (rw (operation j h, ← eu) at e))
-
-  whole : (l : List (List Bool)) (j : ℕ) → j ≤ m → m ≤ j → Closed start (take m own) l j → Closed start (take m own) l (length (take m own))
-  whole l j h h′ cl i v lt has = cl i v (omega (arith, count)) has
-
-  -- The others' operations are the first n of a list. All of them are done.
-  pub finished : {Goal : Type 0} {l : List (List Bool)} (n : ℕ) (others : List Operation) → n ≤ length others → (i j : ℕ) → j ≤ m → m ≤ j → Closed start (take m own) l j
-      → Held start (take m own) Goal (drop i (take n others)) l → n ≤ i → Goal → ⊥
-  finished {l = l} n others hn i j h h′ cl held hi =
-      none-left start (take m own) l (whole l j h h′ cl) (rw (drop-of-length-le (take n others) {i = i} (omega (arith, length-take-le n others hn))) at held)
-
-  -- The others' operation i, run or left out.
-  pub other-step : {Goal : Type 0} {l l′ : List (List Bool)} (n : ℕ) (others : List Operation) → n ≤ length others → (i j : ℕ) → j ≤ m → m ≤ j → Closed start (take m own) l j
-      → Held start (take m own) Goal (drop i (take n others)) l → i < n → Widened m (opNo others i) l l′
-      → Held start (take m own) Goal (drop (i + 1) (take n others)) l′
-  other-step {Goal} {l} {l′} n others hn i j h h′ cl held hi mv =
-      rw (add-one i) (widens start (take m own) l l′ (whole l j h h′ cl) held′ (λ j hj. mv .each j (omega (arith, count))))
-    where
-      held′ : Held start (take m own) Goal (opNo others i ∷ drop (suc i) (take n others)) l
-      held′ =
-          rw (
-            drop-cons (take n others) i noOp (omega (arith, length-take-le n others hn)),
-            getD-take n others i noOp hi,
-          ) at held

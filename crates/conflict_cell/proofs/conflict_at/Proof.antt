@@ -7,14 +7,15 @@ use borrow.Author.Count.{below-more}
 use lib.ListN.{length, take, drop, length-set}
 use Rattle.operation.specs.Operation.{value, response}
 use Rattle.conflict_marks.specs.Marks.{Has, Blank, marksAt}
-use Rattle.conflict_marks.proofs.Stored.{below, laid-blank, blank-first}
+use Rattle.conflict_marks.proofs.Stored.{clash, below, laid-blank, blank-first}
 use Rattle.conflict_marks.proofs.Moved.{own-moved}
 use Rattle.conflict_marks.proofs.Look.{none-other}
-use Rattle.conflict.specs.Reach.{Differs}
-use Rattle.conflict.proofs.Meaning.{clash}
-use Rattle.conflict.proofs.Reach.{opNo, ran-none, first-marks, alone, Held, Closed, begins, count, next, own-step, own-long, differs-at, finished, other-step}
-use Rattle.conflict.proofs.conflict_at.Statement.{statement}
-use Rattle.conflict.proofs.conflict_at.Tie as tie
+use Rattle.conflict_cell.specs.Differs.{Differs}
+use Rattle.conflict_cell.proofs.First.{first-marks}
+use Rattle.conflict_cell.proofs.Reach.{opNo, ran-none, alone, Held, Closed, begins}
+use Rattle.conflict_cell.proofs.Taken.{count, next, own-step, own-long, differs-at, finished, other-step}
+use Rattle.conflict_cell.proofs.conflict_at.Statement.{statement}
+use Rattle.conflict_cell.proofs.conflict_at.Tie as tie
 
 abbrev Inv-loop2 : tie.InvT-loop2
 Inv-loop2 start n m others own reach x wide i u j w expected v₀ v =
