@@ -26,15 +26,17 @@ pub fn conflict_at(
     let x = start as usize;
     reach[0][x] = true;
     let mut wide = [false; 768];
+    // Over the others' operations: i of them are run, or left out.
     let mut i = 0;
     'search: loop {
+        // Over the own operations: j of them, run alone, leave the value u.
         let mut u = start;
         let mut j = 0;
         while j < m {
             let w = own[j];
             let expected = operation::response_to(w, u);
             conflict_marks::lay_out(&mut wide, &reach[j]);
-            // Is there a value to find? Only then are they gone through, one by one.
+            // Over the cell's values, entered only where a quick look says that one has another response.
             if conflict_marks::any_other(&wide, w, u) {
                 let mut v: usize = 0;
                 while v < 256 {

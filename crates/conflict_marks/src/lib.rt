@@ -64,7 +64,7 @@ pub fn run_into(into: &mut [bool; 256], wide: &[bool; 768], e: Operation, at: us
     }
 }
 
-// The place from which the operation moves a mark to 0.
+// The place from which the operation moves a mark to 0; 256, where it moves none.
 pub fn moved_from(e: Operation, moves: bool) -> usize
     ensures { λ r. ⌜ (r ≤ 512) × (r ≡ movedFrom e «moves») ⌝ }
 {
@@ -113,8 +113,8 @@ fn same_span(e: Operation, u: u8) -> Span
     Span { lo: 0, hi: 256 }
 }
 
-// A quick look: whether a value with another response than u is marked, below the span of those with its response or
-// above it.
+// A quick look: whether a value whose response is not that of u is marked, below the span of those with its response
+// or above it.
 pub fn any_other(wide: &[bool; 768], e: Operation, u: u8) -> bool
     requires { ⌜ Blank (now wide) ⌝ }
     ensures { λ r. ⌜ (r ≡ true) ↔ Other e u (now (wide .entry)) ⌝ }
