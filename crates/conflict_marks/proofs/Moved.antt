@@ -1,9 +1,9 @@
 -- What an operation makes of the marks of one row, and of many.
 use Prim.Native.Nat.{ℕ, _+_, _-_, _<_, _≤_}
 use mathlib.Core.Path.{_≡_, refl, sym, _∙_}
-use mathlib.Core.Bool.{Bool, true, false, _||_}
+use mathlib.Core.Bool.{Bool, true, false}
 use mathlib.Core.List.{List, []}
-use mathlib.Core.Logic.{_↔_, _⊎_, inl, inr, ⊎-elim}
+use mathlib.Core.Logic.{_⊎_, inl, inr, ⊎-elim}
 use native.Mathlib.Decide.{ℕ-discrete, decLt}
 use native.Mathlib.Omega.{arith}
 use lib.ListN.{length, set, length-set}
@@ -11,7 +11,7 @@ use lib.Dec.{eqb}
 use lib.Seq.{getD-set-same, getD-set-other}
 use Rattle.operation.specs.declared.Operation.{Operation}
 use Rattle.operation.specs.Operation.{value, response}
-use Rattle.conflict_marks.specs.Marks.{Has, Laid, Joined, Ran, movedFrom, Moved, marksAt, Widened}
+use Rattle.conflict_marks.specs.Marks.{Has, Laid, Joined, Ran, movedFrom, Moved, marksAt}
 use Rattle.conflict_marks.proofs.Stored.{below}
 use Rattle.conflict_marks.proofs.ByKind.{value-add, value-full, value-take, value-short, value-set, value-read, response-add, response-full, response-take, response-short, fits-too, full-too, enough-too, short-too, from-add, from-take, from-none, from-other}
 
