@@ -156,10 +156,10 @@ struct Times {
 // Taken in turn, so that a busy moment of the machine falls on all three; the least of each counts.
 static Times timed(const Case &c) {
     Times t = {1e9, 1e9, 1e9};
-    for (int r = 0; r < 60; ++r) {
+    for (int r = 0; r < 600; ++r) {
         t.proved = std::min(t.proved, once([&] { return proved(c); }));
-        t.values = std::min(t.values, once([&] { return whole(values, c); }));
         t.shifts = std::min(t.shifts, once([&] { return whole(shifts, c); }));
+        if (r % 20 == 0) t.values = std::min(t.values, once([&] { return whole(values, c); }));
     }
     return t;
 }
