@@ -1,20 +1,19 @@
--- The sets of values reached, as lists of marks, and what they say of a conflict among operations on one cell.
-use Prim.Native.Nat.{ℕ, _+_, _<_, _≤_, zero, suc}
+-- The sets of values reached, as rows of marks, and what they say of a conflict among operations on one cell.
+use Prim.Native.Nat.{ℕ, _<_, _≤_, zero, suc}
 use mathlib.Core.Path.{_≡_, refl, sym, _∙_, subst, subst₂}
+use mathlib.Core.Bool.{Bool}
 use mathlib.Core.List.{List, [], _∷_}
 use mathlib.Core.Logic.{_⊎_, ⊎-elim}
 use native.Mathlib.Decide.{ℕ-discrete, decLt}
 use native.Mathlib.Nat.{le-of-suc-le-suc, not-suc-le-zero}
 use native.Mathlib.Omega.{arith}
-use native.Mathlib.Numerals.{add-one}
 use lib.ListN.{length, getD, set, take, drop, drop-of-length-le}
-use lib.Seq.{getD-set-same, getD-set-other, drop-cons, length-take-le, getD-take}
+use lib.Seq.{getD-set-same, getD-set-other, drop-cons}
 use Rattle.operation.specs.declared.Operation.{Operation}
-use Rattle.operation.specs.Operation.{Response, value, response}
-use Rattle.operation.specs.Operation.{noOp}
-use Rattle.conflict.specs.declared.Marks.{Marks}
-use Rattle.conflict.specs.Reach.{Has, Moved, marksAt, FirstMarks, Differs, here, step, skip, runs}
-use Rattle.conflict.proofs.Marked.{below}
+use Rattle.operation.specs.Operation.{Response, noOp, value, response}
+use Rattle.conflict_marks.specs.Marks.{Has, Moved, marksAt}
+use Rattle.conflict_cell.specs.Differs.{Differs, here, step, skip, runs}
+use Rattle.conflict_cell.proofs.First.{FirstMarks}
 
 -- Sets of states, P, that hold with each state and the own operations that are left the state after the next own operation, and in which no own response differs.
 module _ {S : Type 0} (val : Operation → S → S) (res : Operation → S → Response) (P : S → S → List Operation → Type 0)
@@ -67,19 +66,19 @@ module _ (start : ℕ) (ws : List Operation) where
   from-step j v h d = rw (drop-cons ws j noOp h) (step (rw (ran-suc start ws j h) at d))
 
   -- The marks l stand for a conflict: with the others' operations os left.
-  pub record Held (Goal : Type 0) (os : List Operation) (l : List Marks) : Type 0 where
-    pub long : (j : ℕ) → j ≤ length ws → length (marksAt l j .at) ≡ 256
+  pub record Held (Goal : Type 0) (os : List Operation) (l : List (List Bool)) : Type 0 where
+    pub long : (j : ℕ) → j ≤ length ws → length (marksAt l j) ≡ 256
     pub sound : (j v : ℕ) → j ≤ length ws → Has (marksAt l j) v → From j v os → Goal
     pub complete : Goal → (j : ℕ) × (v : ℕ) × (j ≤ length ws) × Has (marksAt l j) v × From j v os
 
   -- Below n own operations, no own response differs, and the values after the next own operation are marked.
-  abbrev pub Closed : List Marks → ℕ → Type 0
+  abbrev pub Closed : List (List Bool) → ℕ → Type 0
   Closed l n = (j v : ℕ) → j < n → Has (marksAt l j) v → (response (opNo ws j) v ≡ response (opNo ws j) (alone j)) × Has (marksAt l (suc j)) (value (opNo ws j) v)
 
-  abbrev In : List Marks → ℕ → ℕ → List Operation → Type 0
+  abbrev In : List (List Bool) → ℕ → ℕ → List Operation → Type 0
   In l v u rest = (j : ℕ) × (j ≤ length ws) × Has (marksAt l j) v × (u ≡ alone j) × (rest ≡ drop j ws)
 
-  in-closed : (l : List Marks) → Closed l (length ws) → (v u : ℕ) (w : Operation) (rest : List Operation) → In l v u (w ∷ rest)
+  in-closed : (l : List (List Bool)) → Closed l (length ws) → (v u : ℕ) (w : Operation) (rest : List Operation) → In l v u (w ∷ rest)
       → (response w v ≡ response w u) × In l (value w v) (value w u) rest
   in-closed l cl v u w rest (j, hj, has, eu, ew) = go (decLt j (length ws))
     where
@@ -95,11 +94,11 @@ module _ (start : ℕ) (ws : List Operation) where
           let z : _≡_ {A = ℕ} 0 1 = cc in absurd (omega arith)
 
   -- With none of the others' operations left there is no conflict.
-  pub none-left : {Goal : Type 0} (l : List Marks) → Closed l (length ws) → Held Goal [] l → Goal → ⊥
+  pub none-left : {Goal : Type 0} (l : List (List Bool)) → Closed l (length ws) → Held Goal [] l → Goal → ⊥
   none-left l cl h g = let (j, v, hj, has, d) = h .complete g in final (value) (response) (In l) (in-closed l cl) d (j, hj, has, refl, refl)
 
   -- Another's operation, run or left out.
-  pub widens : {Goal : Type 0} {o : Operation} {os : List Operation} (l l′ : List Marks) → Closed l (length ws) → Held Goal (o ∷ os) l
+  pub widens : {Goal : Type 0} {o : Operation} {os : List Operation} (l l′ : List (List Bool)) → Closed l (length ws) → Held Goal (o ∷ os) l
       → ((j : ℕ) → j ≤ length ws → Moved o (marksAt l j) (marksAt l j) (marksAt l′ j)) → Held Goal os l′
   widens {Goal} {o} {os} l l′ cl h mv = record { long = λ j hj. mv j hj .long; sound = sound; complete = complete }
     where
@@ -118,11 +117,11 @@ module _ (start : ℕ) (ws : List Operation) where
           (p .0, v′, p .1, p .2, subst₂ (λ x y. Differs (value) (response) v′ x os y) (p .3) (p .4) d′)
 
   -- A differing response.
-  pub found : {Goal : Type 0} {os : List Operation} {l : List Marks} (j v : ℕ) → Held Goal os l → j < length ws → Has (marksAt l j) v
+  pub found : {Goal : Type 0} {os : List Operation} {l : List (List Bool)} (j v : ℕ) → Held Goal os l → j < length ws → Has (marksAt l j) v
       → (response (opNo ws j) v ≡ response (opNo ws j) (alone j) → ⊥) → Goal
   found j v h lt has n = h .sound j v (omega arith) has (from-here j v lt n)
 
-  pub begins : {os : List Operation} {l : List Marks} → FirstMarks start l → length ws < 33 → Held (Differs (value) (response) start start os ws) os l
+  pub begins : {os : List Operation} {l : List (List Bool)} → FirstMarks start l → length ws < 33 → Held (Differs (value) (response) start start os ws) os l
   unfolding ran
   begins {os} {l} f short = record {
     long = λ j hj. f .long j (omega arith);
@@ -131,12 +130,12 @@ module _ (start : ℕ) (ws : List Operation) where
   }
 
   -- One own operation run on the values of its set.
-  module _ (l : List Marks) (j : ℕ) (into : Marks) (lt : j < length ws) (fits : suc j < length l) where
+  module _ (l : List (List Bool)) (j : ℕ) (into : List Bool) (lt : j < length ws) (fits : suc j < length l) where
     stored : (i : ℕ) → (i ≡ suc j → ⊥) → marksAt (set l (suc j) into) i ≡ marksAt l i
-    stored i n = getD-set-other l (suc j) i into (record { at = [] }) n
+    stored i n = getD-set-other l (suc j) i into [] n
 
     new : marksAt (set l (suc j) into) (suc j) ≡ into
-    new = getD-set-same l (suc j) into (record { at = [] }) fits
+    new = getD-set-same l (suc j) into [] fits
 
     pub closes : Closed l j → ((v : ℕ) → Has (marksAt l j) v → (response (opNo ws j) v ≡ response (opNo ws j) (alone j)) × Has into (value (opNo ws j) v))
         → Closed (set l (suc j) into) (suc j)
@@ -149,13 +148,13 @@ module _ (start : ℕ) (ws : List Operation) where
         go (yes e) = rw (e, new) (own v (rw e at has′))
         go (no n) = rw (stored (suc i) (λ e. omega arith)) (cl i v (omega arith) has′)
 
-    pub adds : {Goal : Type 0} {os : List Operation} → Held Goal os l → length (into .at) ≡ 256
+    pub adds : {Goal : Type 0} {os : List Operation} → Held Goal os l → length (into) ≡ 256
         → ((x : ℕ) → Has (marksAt l (suc j)) x → Has into x)
         → ((x : ℕ) → Has into x → Has (marksAt l (suc j)) x ⊎ ((y : ℕ) × Has (marksAt l j) y × (x ≡ value (opNo ws j) y)))
         → Held Goal os (set l (suc j) into)
     adds {Goal} {os} h li kept only = record { long = λ i hi. long i hi (ℕ-discrete i (suc j)); sound = λ i v hi has d. sound i v hi has d (ℕ-discrete i (suc j)); complete = complete }
       where
-        long : (i : ℕ) → i ≤ length ws → Dec (i ≡ suc j) → length (marksAt (set l (suc j) into) i .at) ≡ 256
+        long : (i : ℕ) → i ≤ length ws → Dec (i ≡ suc j) → length (marksAt (set l (suc j) into) i) ≡ 256
         long i hi (no n) = rw (stored i n) (h .long i hi)
         long i hi (yes e) = rw (e, new) li
 
@@ -173,67 +172,3 @@ module _ (start : ℕ) (ws : List Operation) where
 
         complete : Goal → (i : ℕ) × (v : ℕ) × (i ≤ length ws) × Has (marksAt (set l (suc j) into) i) v × From i v os
         complete g = let (i, v, hi, has, d) = h .complete g in (i, v, hi, keep i v has (ℕ-discrete i (suc j)), d)
-
--- The own operations are the first m of a list.
-module _ (start m : ℕ) (own : List Operation) (hm : m ≤ length own) where
-  pub count : length (take m own) ≡ m
-  count = length-take-le m own hm
-
-  operation : (j : ℕ) → j < m → opNo (take m own) j ≡ opNo own j
-  operation j h = getD-take m own j noOp h
-
-  pub next : (j u : ℕ) → j < m → u ≡ alone start (take m own) j → value (opNo own j) u ≡ alone start (take m own) (j + 1)
-  next j u h e = rw (e, add-one j, ← operation j h) (sym (ran-suc start (take m own) j (omega (arith, count))))
-
-  -- The own operation j run on the whole set of values.
-  pub own-step : {Goal : Type 0} {os : List Operation} {l : List Marks} {into : Marks} (j u expected v : ℕ) → j < m → j + 1 < length l → u ≡ alone start (take m own) j
-      → expected ≡ response (opNo own j) u → 256 ≤ v
-      → Moved (opNo own j) (marksAt l j) (marksAt l (j + 1)) into
-      → ((x : ℕ) → x < v → Has (marksAt l j) x → response (opNo own j) x ≡ expected)
-      → Closed start (take m own) l j → Held start (take m own) Goal os l
-      → Closed start (take m own) (set l (j + 1) into) (j + 1) × Held start (take m own) Goal os (set l (j + 1) into)
-  own-step {Goal} {os} {l} {into} j u expected v h fits eu ee hv p same cl held =
-      rw (add-one j) (
-        closes start (take m own) l j into lt fits′ cl (λ x has. rw (operation j h, ← eu) (same x (under x has) has ∙ ee, p .ran x has)),
-        adds start (take m own) l j into lt fits′ held (p .long) (rw (add-one j) at (p .kept)) (rw (operation j h) (rw (add-one j) at (p .only))),
-      )
-    where
-      lt : j < length (take m own)
-      lt = omega (arith, count)
-
-      fits′ : suc j < length l
-      fits′ = omega arith
-
-      under : (x : ℕ) → Has (marksAt l j) x → x < v
-      under x has = omega (arith, below (marksAt l j) x (held .long j (omega (arith, count))) has)
-
-  pub own-long : {Goal : Type 0} {os : List Operation} {l : List Marks} → Held start (take m own) Goal os l → (j : ℕ) → j ≤ m → length (marksAt l j .at) ≡ 256
-  own-long held j h = held .long j (omega (arith, count))
-
-  pub differs-at : {Goal : Type 0} {os : List Operation} {l : List Marks} (j u expected v : ℕ) → Held start (take m own) Goal os l → j < m → u ≡ alone start (take m own) j
-      → expected ≡ response (opNo own j) u → Has (marksAt l j) v → (response (opNo own j) v ≡ expected → ⊥) → Goal
-  differs-at j u expected v held h eu ee has n =
-      found start (take m own) j v held (omega (arith, count)) has (λ e. n ((rw (operation j h, ← eu) at e) ∙ sym ee))
-
-  whole : (l : List Marks) (j : ℕ) → j ≤ m → m ≤ j → Closed start (take m own) l j → Closed start (take m own) l (length (take m own))
-  whole l j h h′ cl i v lt has = cl i v (omega (arith, count)) has
-
-  -- The others' operations are the first n of a list. All of them are done.
-  pub finished : {Goal : Type 0} {l : List Marks} (n : ℕ) (others : List Operation) → n ≤ length others → (i j : ℕ) → j ≤ m → m ≤ j → Closed start (take m own) l j
-      → Held start (take m own) Goal (drop i (take n others)) l → n ≤ i → Goal → ⊥
-  finished {l = l} n others hn i j h h′ cl held hi =
-      none-left start (take m own) l (whole l j h h′ cl) (rw (drop-of-length-le (take n others) {i = i} (omega (arith, length-take-le n others hn))) at held)
-
-  -- The others' operation i, run or left out.
-  pub other-step : {Goal : Type 0} {l l′ : List Marks} (n : ℕ) (others : List Operation) → n ≤ length others → (i j : ℕ) → j ≤ m → m ≤ j → Closed start (take m own) l j
-      → Held start (take m own) Goal (drop i (take n others)) l → i < n → ((j : ℕ) → j ≤ m → Moved (opNo others i) (marksAt l j) (marksAt l j) (marksAt l′ j))
-      → Held start (take m own) Goal (drop (i + 1) (take n others)) l′
-  other-step {Goal} {l} {l′} n others hn i j h h′ cl held hi mv =
-      rw (add-one i) (widens start (take m own) l l′ (whole l j h h′ cl) held′ (λ j hj. mv j (omega (arith, count))))
-    where
-      held′ : Held start (take m own) Goal (opNo others i ∷ drop (suc i) (take n others)) l
-      held′ =
-          rw (
-            drop-cons (take n others) i noOp (omega (arith, length-take-le n others hn)),
-            getD-take n others i noOp hi,
-          ) at held

@@ -1,0 +1,64 @@
+// The conflict test among operations on one cell.
+ghost use mathlib.Core.Path.{_≡_};
+ghost use Prim.Native.Nat.{_≤_};
+ghost use mathlib.Core.Bool.{true};
+ghost use mathlib.Core.Logic.{_↔_};
+ghost use lib.ListN.{take};
+ghost use Rattle.operation.specs.Operation.{value, response};
+ghost use Rattle.conflict_cell.specs.Differs.{Differs};
+use operation::Operation;
+
+// Whether some interleaving makes an own response differ, where all operations are on one cell. reach[j] has the
+// values that are reached with j own operations run, the own responses so far being as they are alone.
+pub fn conflict_at(
+    start: u8,
+    others: [Operation; 32],
+    n: usize,
+    own: [Operation; 32],
+    m: usize,
+) -> bool
+    requires { ⌜ (n ≤ 32) × (m ≤ 32) ⌝ }
+    ensures { λ r. ⌜ (r ≡ true) ↔ Differs value response start start (take n others) (take m own) ⌝ }
+{
+    // "One cell's values reached so far are 256 yes-or-no marks."
+    let none = [false; 256];
+    let mut reach = [none; 33];
+    let x = start as usize;
+    reach[0][x] = true;
+    let mut wide = [false; 768];
+    // Over the others' operations: i of them are run, or left out.
+    let mut i = 0;
+    'search: loop {
+        // Over the own operations: j of them, run alone, leave the value u.
+        let mut u = start;
+        let mut j = 0;
+        while j < m {
+            let w = own[j];
+            let expected = operation::response_to(w, u);
+            conflict_marks::lay_out(&mut wide, &reach[j]);
+            // Over the cell's values, entered only where a quick look says that one has another response.
+            if conflict_marks::any_other(&wide, w, u) {
+                let mut v: usize = 0;
+                while v < 256 {
+                    if reach[j][v] {
+                        if operation::response_to(w, v as u8) != expected {
+                            break 'search;
+                        }
+                    }
+                    v += 1;
+                }
+            }
+            let at = conflict_marks::moved_from(w, expected == 1);
+            conflict_marks::run_into(&mut reach[j + 1], &wide, w, at);
+            u = operation::value_after(w, u);
+            j += 1;
+        }
+        if i == n {
+            return false;
+        }
+        let o = others[i];
+        conflict_marks::widen(&mut reach, m, o);
+        i += 1;
+    }
+    true
+}

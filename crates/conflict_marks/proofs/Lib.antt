@@ -1,0 +1,4 @@
+pub mod Stored
+pub mod ByKind
+pub mod Moved
+pub mod Look

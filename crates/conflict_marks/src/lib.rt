@@ -1,0 +1,144 @@
+// Rows of 256 marks, one for each value of a cell, and what an operation does to them. The conflict test's inner steps.
+ghost use mathlib.Core.Path.{_≡_};
+ghost use Prim.Native.Nat.{ℕ, _+_, _<_, _≤_};
+ghost use mathlib.Core.Bool.{true};
+ghost use mathlib.Core.Logic.{_↔_};
+ghost use lib.ListN.{length};
+ghost use Rattle.conflict_marks.specs.Marks.{Has, Blank, Laid, Joined, Ran, movedFrom, SameSpan, Other, marksAt, Widened};
+use operation::Operation;
+
+// Lays 256 marks out in the middle of 768 places; those below and above stay unmarked. So the marks of the values
+// below x are those of the 256 places from x on, those from x on are those of the 256 places from 256 + x on, and
+// marks that move by a are those of the 256 places from 256 - a, or 256 + a, on: each a loop of one fixed length.
+pub fn lay_out(wide: &mut [bool; 768], marks: &[bool; 256])
+    requires { ⌜ (length (now marks) ≡ 256) × Blank (now wide) ⌝ }
+    ensures { λ _. ⌜ Laid (now (marks .entry)) (now (wide .exit)) ⌝ }
+{
+    let mut v = 0;
+    while v < 256 {
+        wide[v + 256] = marks[v];
+        v += 1;
+    }
+}
+
+// Whether one of the 256 places from `at` on is marked.
+fn any_marked(wide: &[bool; 768], at: usize) -> bool
+    requires { ⌜ at ≤ 512 ⌝ }
+    ensures { λ r. ⌜ (r ≡ true) ↔ ((k : ℕ) × (k < 256) × Has (now (wide .entry)) (at + k)) ⌝ }
+{
+    let mut found = false;
+    let mut k = 0;
+    while k < 256 {
+        found = found | wide[at + k];
+        k += 1;
+    }
+    found
+}
+
+// Adds the marks of the 256 places from `at` on.
+fn merge(into: &mut [bool; 256], wide: &[bool; 768], at: usize)
+    requires { ⌜ (at ≤ 512) × (length (now into) ≡ 256) ⌝ }
+    ensures { λ _. ⌜ Joined 256 at (now (wide .entry)) (now (into .entry)) (now (into .exit)) ⌝ }
+{
+    let mut v = 0;
+    while v < 256 {
+        let y = into[v];
+        into[v] = y | wide[at + v];
+        v += 1;
+    }
+}
+
+// Adds what the operation makes of the marks laid out: a set's amount, if there is any mark; else the marks moved
+// alike, so that the one at `at` comes to 0.
+pub fn run_into(into: &mut [bool; 256], wide: &[bool; 768], e: Operation, at: usize)
+    requires { ⌜ (at ≤ 512) × (length (now into) ≡ 256) ⌝ }
+    ensures { λ _. ⌜ Ran e at (now (wide .entry)) (now (into .entry)) (now (into .exit)) ⌝ }
+{
+    if e.kind == 4 {
+        if any_marked(wide, 256) {
+            let a = e.amount as usize;
+            into[a] = true;
+        }
+    } else {
+        merge(into, wide, at);
+    }
+}
+
+// The place from which the operation moves a mark to 0; 256, where it moves none.
+pub fn moved_from(e: Operation, moves: bool) -> usize
+    ensures { λ r. ⌜ (r ≤ 512) × (r ≡ movedFrom e «moves») ⌝ }
+{
+    let a = e.amount as usize;
+    if moves {
+        if e.kind == 1 {
+            return 256 - a;
+        }
+        if e.kind == 2 {
+            return 256 + a;
+        }
+    }
+    256
+}
+
+// Values from `lo` up to `hi`.
+struct Span {
+    lo: usize,
+    hi: usize,
+}
+
+// The values whose response is that of u.
+fn same_span(e: Operation, u: u8) -> Span
+    ensures { λ r. ⌜ SameSpan e u (r .lo) (r .hi) ⌝ }
+{
+    let a = e.amount as usize;
+    let v = u as usize;
+    if e.kind == 1 {
+        if v + a <= 255 {
+            return Span { lo: 0, hi: 256 - a };
+        }
+        return Span {
+            lo: 256 - a,
+            hi: 256,
+        };
+    }
+    if e.kind == 2 {
+        if a <= v {
+            return Span { lo: a, hi: 256 };
+        }
+        return Span { lo: 0, hi: a };
+    }
+    if e.kind == 3 {
+        return Span { lo: v, hi: v + 1 };
+    }
+    Span { lo: 0, hi: 256 }
+}
+
+// A quick look: whether a value whose response is not that of u is marked, below the span of those with its response
+// or above it.
+pub fn any_other(wide: &[bool; 768], e: Operation, u: u8) -> bool
+    requires { ⌜ Blank (now wide) ⌝ }
+    ensures { λ r. ⌜ (r ≡ true) ↔ Other e u (now (wide .entry)) ⌝ }
+{
+    let same = same_span(e, u);
+    let below = any_marked(wide, same.lo);
+    let above = any_marked(wide, same.hi + 256);
+    below | above
+}
+
+// Adds to each of the first m + 1 what one of the others' operations makes of it. (A read makes nothing new.)
+pub fn widen(reach: &mut [[bool; 256]; 33], m: usize, e: Operation)
+    requires { ⌜ (m ≤ 32) × (length (now reach) ≡ 33) × ((j : ℕ) → j ≤ m → length (marksAt (now reach) j) ≡ 256) ⌝ }
+    ensures { λ _. ⌜ Widened m e (now (reach .entry)) (now (reach .exit)) ⌝ }
+{
+    if e.kind == 3 {
+        return;
+    }
+    let at = moved_from(e, true);
+    let mut wide = [false; 768];
+    let mut j = 0;
+    while j <= m {
+        lay_out(&mut wide, &reach[j]);
+        run_into(&mut reach[j], &wide, e, at);
+        j += 1;
+    }
+}
