@@ -50,16 +50,39 @@ mod cop {
         pub said: Said,
     }
 
-    const _: () = assert!(size_of::<Replica>() == 1388 && size_of::<Server>() == 3432 && size_of::<Opened>() == 1404);
+    use std::mem::size_of;
+    const _: () = assert!(
+        size_of::<Replica>() == 1388 && size_of::<Server>() == 3432 && size_of::<Opened>() == 1404
+    );
 
     mod c {
         use super::*;
-        unsafe extern "C" {
+        extern "C" {
             pub fn cop_open(number: u8, keys: *const u8, keys_n: usize) -> Opened;
-            pub fn cop_invoke(r: *mut Replica, kind: u8, cell: u8, amount: u8, out: *mut u8, out_n: usize) -> Said;
-            pub fn cop_receive(r: *mut Replica, m: *const u8, m_n: usize, out: *mut u8, out_n: usize) -> Said;
+            pub fn cop_invoke(
+                r: *mut Replica,
+                kind: u8,
+                cell: u8,
+                amount: u8,
+                out: *mut u8,
+                out_n: usize,
+            ) -> Said;
+            pub fn cop_receive(
+                r: *mut Replica,
+                m: *const u8,
+                m_n: usize,
+                out: *mut u8,
+                out_n: usize,
+            ) -> Said;
             pub fn cop_fresh_server() -> Server;
-            pub fn cop_serve(s: *mut Server, line: u8, m: *const u8, m_n: usize, out: *mut u8, out_n: usize) -> Said;
+            pub fn cop_serve(
+                s: *mut Server,
+                line: u8,
+                m: *const u8,
+                m_n: usize,
+                out: *mut u8,
+                out_n: usize,
+            ) -> Said;
         }
     }
 
@@ -119,12 +142,20 @@ impl World {
     fn invoke(&mut self, van: usize, kind: u8, cell: u8, amount: u8) -> Said {
         let mut out = [0u8; 43];
         let s = cop::invoke(&mut self.vans[van - 1], kind, cell, amount, &mut out);
-        if s.what == INVOKED { self.serve(van, &out) } else { s }
+        if s.what == INVOKED {
+            self.serve(van, &out)
+        } else {
+            s
+        }
     }
 
     fn deliver(&mut self, van: usize) -> Option<Said> {
         let mut out = [0u8; 80];
-        let s = cop::receive(&mut self.vans[van - 1], self.lines[van - 1].front()?, &mut out);
+        let s = cop::receive(
+            &mut self.vans[van - 1],
+            self.lines[van - 1].front()?,
+            &mut out,
+        );
         if s.number == 0 {
             self.lines[van - 1].pop_front();
         }
@@ -150,18 +181,40 @@ fn text(s: Option<Said>) -> String {
 }
 
 fn main() {
-    let input = ["I 1 4 0 7", "D 1", "D 1", "D 2", "I 2 1 0 3", "I 1 2 0 5", "D 1", "I 1 2 0 4", "D 1"];
+    let input = [
+        "I 1 4 0 7",
+        "D 1",
+        "D 1",
+        "D 2",
+        "I 2 1 0 3",
+        "I 1 2 0 5",
+        "D 1",
+        "I 1 2 0 4",
+        "D 1",
+    ];
     let keys: Vec<u8> = (0..256).map(|i| (i / 32 + 1) as u8).collect(); // van j's key is 32 bytes of value j; real ones are random
     let open = |number| {
         let o = cop::open(number, &keys);
         assert_eq!(o.said.what, OPENED);
         o.replica
     };
-    let mut world = World { vans: vec![open(1), open(2)], server: cop::fresh_server(), lines: vec![VecDeque::new(); 2] };
+    let mut world = World {
+        vans: vec![open(1), open(2)],
+        server: cop::fresh_server(),
+        lines: vec![VecDeque::new(); 2],
+    };
     for (i, line) in input.iter().enumerate() {
-        let n: Vec<u8> = line.split(' ').skip(1).map(|w| w.parse().unwrap()).collect();
+        let n: Vec<u8> = line
+            .split(' ')
+            .skip(1)
+            .map(|w| w.parse().unwrap())
+            .collect();
         let van = n[0] as usize;
-        let said = if line.starts_with('I') { Some(world.invoke(van, n[1], n[2], n[3])) } else { world.deliver(van) };
+        let said = if line.starts_with('I') {
+            Some(world.invoke(van, n[1], n[2], n[3]))
+        } else {
+            world.deliver(van)
+        };
         println!("{} {} {}", i + 1, van, text(said));
     }
 }

@@ -4,7 +4,7 @@ set -eu
 cd "$(dirname "$0")/.."
 rt staticlib cop_c | tail -n 1
 mkdir -p target/examples
-rustc --edition 2024 -O -D warnings -A dead_code examples/listing.rs -L target/staticlib -l static=cop_c -o target/examples/listing-rust
+rustc --edition 2021 -O -D warnings -A dead_code examples/listing.rs -L target/staticlib -l static=cop_c -o target/examples/listing-rust
 target/examples/listing-rust > target/examples/listing-rust.out
 cat target/examples/listing-rust.out
 cmp target/examples/listing-rust.out examples/listing.out
