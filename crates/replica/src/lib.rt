@@ -8,6 +8,7 @@ use operation::Response;
 // A client's state (document 01: a van's book). `confirmed` is the last confirmed sequence number (c), `held` how many
 // sequence numbers past it have a chain value. `chain` has 33 values of 32 bytes: that at `confirmed`, then those held.
 // `statuses` has the own statuses at the held ones: 0 none, 1 success, 2 aborted. No current operation: all fields 0.
+#[repr(C)]
 pub struct Replica {
     pub number: u8,
     pub keys: [u8; 256],

@@ -1,0 +1,94 @@
+// What a call says to a program in C or Rust: an outcome as four numbers. Definitions: specs/Said.antt.
+ghost use mathlib.Core.Path.{_≡_};
+ghost use Rattle.replica.specs.Outcome.{doneTold, told};
+ghost use Rattle.server.specs.Server.{doneTold as serverDoneTold, told as serverTold};
+ghost use Rattle.cop_said.specs.Said.{said, serverSaid, success, refusal, halt};
+use replica::Done;
+use replica::Outcome;
+use server::ServerDone;
+use server::ServerOutcome;
+
+// `what` tells the outcomes apart. `number` is document 01's: 0 for a success, else a refusal's or a halt's. `first`
+// and `second` are what a success brings.
+#[repr(C)]
+pub struct Said {
+    pub what: u32,
+    pub number: u32,
+    pub first: u32,
+    pub second: u32,
+}
+
+fn success_said(what: u32, first: u32, second: u32) -> Said
+    ensures { λ q. ⌜ q ≡ success what first second ⌝ }
+{
+    Said {
+        what,
+        number: 0,
+        first,
+        second,
+    }
+}
+
+fn refusal_said(number: u8) -> Said
+    ensures { λ q. ⌜ q ≡ refusal number ⌝ }
+{
+    Said {
+        what: 0,
+        number: number as u32,
+        first: 0,
+        second: 0,
+    }
+}
+
+fn halt_said(number: u8) -> Said
+    ensures { λ q. ⌜ q ≡ halt number ⌝ }
+{
+    Said {
+        what: 1,
+        number: number as u32,
+        first: 0,
+        second: 0,
+    }
+}
+
+fn done_said(d: Done) -> Said
+    ensures { λ q. ⌜ q ≡ said (doneTold d) ⌝ }
+{
+    match d {
+        Done::Opened => success_said(2, 0, 0),
+        Done::Invoked(count) => success_said(3, count, 0),
+        Done::Responded { seq, response } => success_said(4, seq, response as u32),
+        Done::Aborted { seq } => success_said(5, seq, 0),
+        Done::Confirmed { seq, status } => success_said(6, seq, status as u32),
+    }
+}
+
+// What a client's call says.
+pub fn client_said(o: Outcome) -> Said
+    ensures { λ q. ⌜ q ≡ said (told o) ⌝ }
+{
+    match o {
+        Outcome::Success(d) => done_said(d),
+        Outcome::Refused(why) => refusal_said(replica::refusal_number(why)),
+        Outcome::Halted(why) => halt_said(replica::halt_number(why)),
+    }
+}
+
+fn server_done_said(d: ServerDone) -> Said
+    ensures { λ q. ⌜ q ≡ serverSaid (serverDoneTold d) ⌝ }
+{
+    match d {
+        ServerDone::Placed(seq) => success_said(7, seq, 0),
+        ServerDone::Broadcast(n) => success_said(8, n, 0),
+    }
+}
+
+// What the server's call says.
+pub fn server_said(o: ServerOutcome) -> Said
+    ensures { λ q. ⌜ q ≡ serverSaid (serverTold o) ⌝ }
+{
+    match o {
+        ServerOutcome::Success(d) => server_done_said(d),
+        ServerOutcome::Refused(why) => refusal_said(server::refusal_number(why)),
+    }
+}

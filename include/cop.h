@@ -1,0 +1,187 @@
+/* The proved client and server of COP, the digest and the tag, for C and C++ on x86-64 Linux.
+   Link target/staticlib/libcop_c.a, which `rt staticlib cop_c` proves and writes. examples/listing.c uses all of it but
+   cop_digest and cop_tag.
+
+   What each call does is an equation in crates/cop_c/src/lib.rt, proved for every state, every argument and every length:
+   no call has a condition on the values that it is given. A state of any bytes is a state: where a field is out of range the
+   call is refused with 8. After a refusal the state and the buffer are as they were; after a halt only the halt mark has changed.
+   Of a buffer no byte past those written changes.
+
+   What the caller owes, as with any C function: each pointer leads to memory of the stated size (a slice is a pointer and a
+   length), written before (a buffer too) and not null, even where its length is 0; and in one call neither the state nor the buffer
+   overlaps anything else that is passed.
+
+   Threads. The library keeps nothing between calls and has no data of its own but constants: a call reads and writes what
+   it is lent. Calls on different states, with different buffers, may run at the same time. Of one state, let one call end before
+   the next begins, also where the two come from different threads. A call takes less than 64 KiB of stack (measured, not proved).
+
+   Keeping the state. The theorem that clients agree asks that no replica is ever wound back: each call gets the replica that
+   the last call left. So after each call that is not a refusal, before anything of it is used (before the bytes written go
+   out, before an answer is shown), make one record durable: the whole cop_replica, the bytes written, and how many messages
+   of the line from the server have been taken. Write it to a new file, fsync it, rename it over the old one, fsync the
+   folder. After a crash go on from that record alone: send its bytes again (a server that has them refuses with 32, 35 or 36, which
+   changes nothing), and take no message twice (a client halts at one). Never open a client number anew, and never go on from a
+   backup or a copy: what a lost or doubled laptop might still have sent would then be sent again with other contents. Where
+   the record is lost, that number is out of use. The server's state is kept in the same way, with the lines to the clients.
+   Padding in a struct is not part of the state: compare fields, not bytes.
+
+   Keys. Each client has a key of 32 bytes and every client holds all eight, client 1's first: the same 256 bytes in each,
+   from a good source of random bytes, and on no other machine; the server has none. They stand unhidden in cop_replica, so that a
+   file with one, a core dump or a page of swap with one is as secret as the keys. Whoever has a key can speak as its client. The
+   library neither makes keys nor wipes memory, and nothing is claimed about the time that a call takes. */
+#ifndef COP_H
+#define COP_H
+#include <stddef.h>
+#include <stdint.h>
+
+#ifdef __cplusplus
+extern "C" {
+#endif
+
+/* sizes, in bytes unless said */
+enum {
+    COP_CLIENTS = 8,
+    COP_CELLS = 16,
+    COP_KEY = 32,
+    COP_KEYS = 256,         /* what cop_open takes */
+    COP_IN = 43,            /* buffer that cop_invoke needs; what it writes */
+    COP_CO = 80,            /* buffer that cop_receive needs for a RE; what it then writes (for a BR: nothing) */
+    COP_BR = 80,
+    COP_ITEM = 41,          /* a RE of n items has 3 + 41 n bytes, n being its third byte */
+    COP_RE_MOST = 1315,     /* 32 items */
+    COP_SERVE_MOST = 2560,  /* buffer with which cop_serve never says 7: 32 BRs (a RE has at most COP_RE_MOST) */
+    COP_DIGEST = 32,
+    COP_TAG = 32,
+    COP_INPUT_MOST = 65535, /* of an input or a key, for digest and tag */
+    COP_COUNT_MOST = 1000000, /* own counts and sequence numbers end here */
+    COP_PENDING_MOST = 32   /* sequence numbers that wait at the server; those held past the last confirmed one at a client */
+};
+
+/* kinds of operations */
+enum { COP_ADD = 1, COP_TAKE = 2, COP_READ = 3, COP_SET = 4 };
+
+/* statuses, as a confirmation brings them */
+enum { COP_ASIDE = 0, COP_DONE = 1 };
+
+/* cop_said.what: which outcome, with what first and second then are (0 where nothing is said) */
+enum {
+    COP_REFUSED = 0,   /* the number says why */
+    COP_HALTED = 1,    /* the number says why */
+    COP_OPENED = 2,
+    COP_INVOKED = 3,   /* own count; COP_IN bytes written */
+    COP_RESPONDED = 4, /* sequence number, response; COP_CO bytes written */
+    COP_ABORTED = 5,   /* sequence number; COP_CO bytes written */
+    COP_CONFIRMED = 6, /* sequence number, status; nothing written */
+    COP_PLACED = 7,    /* sequence number; a RE for that client written */
+    COP_BROADCAST = 8  /* how many BRs were written, COP_BR bytes each, each for all clients; may be 0 */
+};
+
+/* cop_said.number: 0 for a success, else a refusal's or a halt's */
+enum {
+    COP_REFUSED_NUMBER = 1,    /* client number not 1 to 8 */
+    COP_REFUSED_KEYS = 2,      /* not 256 key bytes */
+    COP_REFUSED_HALT_MARK = 3, /* the client has halted */
+    COP_REFUSED_CURRENT = 4,   /* an operation is under way */
+    COP_REFUSED_FORBIDDEN = 5, /* kind, cell or amount not allowed */
+    COP_REFUSED_COUNT = 6,     /* own count at 1,000,000 */
+    COP_REFUSED_ROOM = 7,      /* buffer too short */
+    COP_REFUSED_RANGE = 8,     /* a field of the state out of range */
+    COP_REFUSED_LONG = 9,      /* digest, tag: input or key over 65,535 bytes */
+    COP_HALT_FORM = 20,        /* neither a RE nor a BR, or of a wrong length */
+    COP_HALT_CONTENT = 21,     /* operation, author, status or sequence number not allowed */
+    COP_HALT_TAG = 22,         /* tag wrong */
+    COP_HALT_CHAIN = 23,       /* hash chain not the one held */
+    COP_HALT_LAST = 24,        /* a RE that does not end in the current operation */
+    COP_HALT_SEQ = 25,         /* a BR that is not the next */
+    COP_REFUSED_FORM = 30,     /* server: neither an IN nor a CO, or its content not allowed */
+    COP_REFUSED_LINE = 31,     /* server: author not the client of that line */
+    COP_REFUSED_NEXT = 32,     /* server: count not one above the last placed */
+    COP_REFUSED_PENDING = 33,  /* server: 32 pending */
+    COP_REFUSED_FULL = 34,     /* server: sequence numbers at their end */
+    COP_REFUSED_PLACE = 35,    /* server: no such operation at that sequence number */
+    COP_REFUSED_COMMITTED = 36 /* server: committed before */
+};
+
+typedef struct {
+    uint32_t what, number, first, second;
+} cop_said;
+
+typedef struct {
+    uint32_t count;
+    uint8_t kind, cell, amount, last;
+} cop_operation;
+
+/* a client's state: crates/replica, struct Replica */
+typedef struct {
+    uint8_t number;
+    uint8_t keys[256];
+    uint32_t count;
+    cop_operation current; /* all zero: none */
+    uint32_t confirmed;
+    uint32_t held;
+    uint8_t chain[1056];
+    uint8_t statuses[32];
+    uint8_t cells[16];
+    uint8_t halt;
+} cop_replica;
+
+/* the server's state: crates/server, struct Server */
+typedef struct {
+    uint32_t placed;
+    uint32_t passed;
+    uint32_t counts[8];
+    uint8_t items[1312];
+    uint8_t statuses[32];
+    uint8_t digests[1024];
+    uint8_t tags[1024];
+} cop_server;
+
+typedef struct {
+    cop_replica replica; /* all zero after a refusal */
+    cop_said said;
+} cop_opened;
+
+/* Opens a client: COP_OPENED, 1 or 2. */
+cop_opened cop_open(uint8_t number, const uint8_t *keys, size_t keys_n);
+
+/* Invokes an operation; its IN goes to the front of out, of COP_IN bytes or more. COP_INVOKED, or 8, 3, 4, 5, 6, 7. */
+cop_said cop_invoke(cop_replica *r, uint8_t kind, uint8_t cell, uint8_t amount, uint8_t *out, size_t out_n);
+
+/* Takes a message from the server. A RE: its CO goes to the front of out, of COP_CO bytes or more; COP_RESPONDED, COP_ABORTED, or 8, 3,
+   20, 7, 21 to 24. A BR: out may have length 0; COP_CONFIRMED, or 8, 3, 20, 21, 25, 22, 23. */
+cop_said cop_receive(cop_replica *r, const uint8_t *m, size_t m_n, uint8_t *out, size_t out_n);
+
+/* A fresh server. */
+cop_server cop_fresh_server(void);
+
+/* Takes a message on the line of client `line`. An IN: its RE goes to the front of out, 3 bytes and COP_ITEM for each operation pending
+   with this one; COP_PLACED, or 8, 30 to 34, 7. A CO: the BRs now due go to the front of out, COP_BR bytes each; COP_BROADCAST,
+   or 8, 30, 31, 35, 36, 7. COP_SERVE_MOST bytes are enough for both. */
+cop_said cop_serve(cop_server *s, uint8_t line, const uint8_t *m, size_t m_n, uint8_t *out, size_t out_n);
+
+/* SHA-256 and HMAC-SHA-256: 0 and 32 bytes to out, or COP_REFUSED_LONG and out as it was. */
+uint32_t cop_digest(const uint8_t *input, size_t input_n, uint8_t out[COP_DIGEST]);
+uint32_t cop_tag(const uint8_t *key, size_t key_n, const uint8_t *input, size_t input_n, uint8_t out[COP_TAG]);
+
+/* the layout that the library was built for */
+#if defined(__cplusplus) && __cplusplus >= 201103L
+#define COP_LAYOUT(e) static_assert(e, "layout")
+#elif defined(__STDC_VERSION__) && __STDC_VERSION__ >= 201112L
+#define COP_LAYOUT(e) _Static_assert(e, "layout")
+#else
+#define COP_LAYOUT(e) typedef char cop_layout[(e) ? 1 : -1]
+#endif
+COP_LAYOUT(sizeof(cop_said) == 16 && offsetof(cop_said, second) == 12 && sizeof(cop_operation) == 8
+           && offsetof(cop_operation, last) == 7 && offsetof(cop_replica, keys) == 1 && offsetof(cop_replica, count) == 260
+           && offsetof(cop_replica, current) == 264 && offsetof(cop_replica, confirmed) == 272 && offsetof(cop_replica, held) == 276
+           && offsetof(cop_replica, chain) == 280 && offsetof(cop_replica, statuses) == 1336 && offsetof(cop_replica, cells) == 1368
+           && offsetof(cop_replica, halt) == 1384 && sizeof(cop_replica) == 1388 && offsetof(cop_server, passed) == 4
+           && offsetof(cop_server, counts) == 8 && offsetof(cop_server, items) == 40 && offsetof(cop_server, statuses) == 1352
+           && offsetof(cop_server, digests) == 1384 && offsetof(cop_server, tags) == 2408 && sizeof(cop_server) == 3432
+           && offsetof(cop_opened, said) == 1388 && sizeof(cop_opened) == 1404);
+#undef COP_LAYOUT
+
+#ifdef __cplusplus
+}
+#endif
+#endif
