@@ -150,10 +150,27 @@ pub fn refused(replica: Replica, why: Refusal) -> Stepped
     }
 }
 
-fn halt_number(h: Halt) -> u8
-    ensures { λ r. ⌜ r ≡ haltNo h ⌝ }
+// The number of a refusal.
+pub fn refusal_number(why: Refusal) -> u8
+    ensures { λ r. ⌜ r ≡ refusalNo why ⌝ }
 {
-    match h {
+    match why {
+        Refusal::Number => 1,
+        Refusal::Keys => 2,
+        Refusal::HaltMark => 3,
+        Refusal::Current => 4,
+        Refusal::Forbidden => 5,
+        Refusal::CountFull => 6,
+        Refusal::Room => 7,
+        Refusal::Range => 8,
+    }
+}
+
+// The number of a halt.
+pub fn halt_number(why: Halt) -> u8
+    ensures { λ r. ⌜ r ≡ haltNo why ⌝ }
+{
+    match why {
         Halt::Form => 20,
         Halt::Content => 21,
         Halt::Tag => 22,
