@@ -48,7 +48,7 @@ fn chain_to(c: u32, held: u32, m: &[u8], chain: [u8; 1056], n: usize) -> [u8; 10
     let mut t = chain;
     let mut k = 0;
     while k < n {
-        let i = client_reply_check::item_of(m, k);
+        let i = message::item_of(m, k);
         let u = chain_item(c, held, k, i, t);
         t = u;
         k += 1;
@@ -131,7 +131,7 @@ fn sort_to(number: u8, statuses: [u8; 32], m: &[u8], n: usize) -> Lists
     let mut l = no_lists();
     let mut k = 0;
     while k < n {
-        let i = client_reply_check::item_of(m, k);
+        let i = message::item_of(m, k);
         l = sort_item(l, number, statuses, k, i);
         k += 1;
     }

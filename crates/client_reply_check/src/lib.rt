@@ -13,14 +13,6 @@ use replica::Refusal;
 use replica::Replica;
 use replica::Why;
 
-// Item `k` of a reply.
-pub fn item_of(m: &[u8], k: usize) -> Item
-    requires { ⌜ 44 + k * 41 ≤ length (now m) ⌝ }
-    ensures { λ r. ⌜ r ≡ replyItem (now (m .entry)) k ⌝ }
-{
-    message::read_item(m, 3 + k * 41)
-}
-
 fn form_check(r: Replica, m: &[u8], room: usize) -> Check
     ensures { λ q. ⌜ checkNo q ≡ firstNo 0 (formChecks r (now (m .entry)) room) ⌝ }
 {
@@ -114,7 +106,7 @@ fn items_check(r: Replica, m: &[u8], n: usize) -> Check
     let mut q = Check::Pass;
     let mut k = 0;
     while k < n {
-        q = item_also(q, r, k, item_of(m, k));
+        q = item_also(q, r, k, message::item_of(m, k));
         k += 1;
     }
     q
@@ -125,7 +117,7 @@ fn last_ok(r: Replica, m: &[u8], n: usize) -> bool
     ensures { λ q. ⌜ q ≡ lastOk r (now (m .entry)) ⌝ }
 {
     if 1 <= n {
-        let i = item_of(m, n - 1);
+        let i = message::item_of(m, n - 1);
         let e = i.op;
         let current = r.current;
         operation::same_op(e, current) & (i.author == r.number)
