@@ -64,6 +64,10 @@ abbrev pub Among : (ℕ → Bool) → List (Bool × ℕ) → Type 0
 Among p [] = Unit {0}
 Among p (q ∷ qs) = (p (q .1) ≡ true) × Among p qs
 
+pub among-append : (p : ℕ → Bool) (xs ys : List (Bool × ℕ)) → Among p xs → Among p ys → Among p (xs ++ ys)
+among-append p [] ys a b = b
+among-append p (x ∷ xs) ys a b = (a .0, among-append p xs ys (a .1) b)
+
 also-among : (p : ℕ → Bool) (n : ℕ) (q : Bool × ℕ) → (eqb n 0 ≡ false → p n ≡ true) → p (q .1) ≡ true → eqb (alsoNo n q) 0 ≡ false → p (alsoNo n q) ≡ true
 also-among p zero (true, m) h k e = absurd (true≢false e)
 also-among p zero (false, m) h k e = k
