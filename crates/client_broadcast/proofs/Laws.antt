@@ -2,7 +2,7 @@
 use Prim.Native.Nat.{ℕ, _+_, _<_, _≤_}
 use mathlib.Core.Path.{_≡_, refl, sym, ap, _∙_}
 use mathlib.Core.List.{List, [], _∷_, _++_}
-use mathlib.Core.Bool.{Bool, true}
+use mathlib.Core.Bool.{Bool, true, false, true≢false}
 use lib.Dec.{leb, eqb}
 use lib.ListN.{length}
 use native.Mathlib.Omega.{arith}
@@ -13,10 +13,10 @@ use Rattle.message.specs.Message.{isBroadcast, commitOf}
 use Rattle.message.proofs.Laws.{broadcast-length}
 use Rattle.verify.specs.Verify.{commitTagOk}
 use Rattle.replica.specs.declared.Replica.{Replica}
-use Rattle.replica.specs.declared.Why.{Why}
-use Rattle.replica.specs.Outcome.{whyNo, confirmed}
-use Rattle.replica.specs.Replica.{stop, inRange, firstNo}
-use Rattle.replica.proofs.Laws.{why-not-0, first-stays, all-yes, every-yes, and-yes}
+use Rattle.replica.specs.Outcome.{isStop, confirmed}
+use Rattle.checks.specs.Checks.{firstNo}
+use Rattle.checks.proofs.Laws.{first-stays, all-yes, first-among, every-yes, and-yes}
+use Rattle.replica.specs.Replica.{stop, inRange}
 use Rattle.client_broadcast.specs.Broadcast.{commitOk, digestOk, formChecks, contentChecks, proofChecks, broadcastNo, confirmedReplica, broadcastStep}
 
 -- ---- the stages of the checks
@@ -27,24 +27,26 @@ module _ (r : Replica) (m : List ℕ) where
   abbrev rest : List (Bool × ℕ)
   rest = contentChecks r k ++ proofChecks r k
 
-  pub form-stops : (w : Why) → whyNo w ≡ firstNo 0 (formChecks r m) → whyNo w ≡ broadcastNo r m
+  pub form-stops : eqb (firstNo 0 (formChecks r m)) 0 ≡ false → firstNo 0 (formChecks r m) ≡ broadcastNo r m
   unfolding broadcastNo
-  form-stops w e = sym (ap (λ (n : ℕ). firstNo n rest) (sym e) ∙ first-stays (whyNo w) rest (why-not-0 w))
+  form-stops e = sym (first-stays (firstNo 0 (formChecks r m)) rest e)
 
-  pub content-stops : (w : Why) → 0 ≡ firstNo 0 (formChecks r m) → whyNo w ≡ firstNo 0 (contentChecks r k) → whyNo w ≡ broadcastNo r m
+  pub content-stops : firstNo 0 (formChecks r m) ≡ 0 → eqb (firstNo 0 (contentChecks r k)) 0 ≡ false → firstNo 0 (contentChecks r k) ≡ broadcastNo r m
   unfolding broadcastNo
-  content-stops w e f =
-      sym
-      (ap (λ (n : ℕ). firstNo n rest) (sym e)
-      ∙ ap (λ (n : ℕ). firstNo n (proofChecks r k)) (sym f)
-      ∙ first-stays (whyNo w) (proofChecks r k) (why-not-0 w))
+  content-stops e f = sym (ap (λ (n : ℕ). firstNo n rest) e ∙ first-stays (firstNo 0 (contentChecks r k)) (proofChecks r k) f)
 
-  pub proof-decides : (n : ℕ) → 0 ≡ firstNo 0 (formChecks r m) → 0 ≡ firstNo 0 (contentChecks r k) → n ≡ firstNo 0 (proofChecks r k) → n ≡ broadcastNo r m
+  pub proof-decides : firstNo 0 (formChecks r m) ≡ 0 → firstNo 0 (contentChecks r k) ≡ 0 → firstNo 0 (proofChecks r k) ≡ broadcastNo r m
   unfolding broadcastNo
-  proof-decides n e f g = g ∙ ap (λ (x : ℕ). firstNo x (proofChecks r k)) f ∙ ap (λ (x : ℕ). firstNo x rest) e
+  proof-decides e f = sym (ap (λ (n : ℕ). firstNo n rest) e ∙ ap (λ (n : ℕ). firstNo n (proofChecks r k)) f)
 
-  pub form-long : 0 ≡ firstNo 0 (formChecks r m) → length m ≡ 80
-  form-long e = broadcast-length m (all-yes 0 (formChecks r m) (refl, (refl, (refl, tt))) (sym e) .1 .1 .1 .0)
+  -- a no has one of the numbers of a client's checks
+  pub broadcast-stop : eqb (broadcastNo r m) 0 ≡ false → isStop (broadcastNo r m) ≡ true
+  unfolding broadcastNo
+  broadcast-stop e =
+      first-among isStop 0 (formChecks r m ++ rest) (λ z. absurd (true≢false z)) (refl, (refl, (refl, (refl, (refl, (refl, (refl, tt))))))) e
+
+  pub form-long : firstNo 0 (formChecks r m) ≡ 0 → length m ≡ 80
+  form-long e = broadcast-length m (all-yes 0 (formChecks r m) (refl, (refl, (refl, tt))) e .1 .1 .1 .0)
 
 -- what an allowed commit has
 pub record Allowed (k : Commit) : Type 0 where
@@ -59,9 +61,9 @@ commit-allowed k e =
     let z = every-yes true (opOk (k .op) ∷ leb 1 (k .author) ∷ leb (k .author) 8 ∷ leb (k .status) 1 ∷ []) e .1 in
     record { op = z .0; low = leb-true _ _ (z .1 .0); high = leb-true _ _ (z .1 .1 .0); status = leb-true _ _ (z .1 .1 .1 .0) }
 
-pub content-author : (r : Replica) (k : Commit) → 0 ≡ firstNo 0 (contentChecks r k) → (1 ≤ k .author) × (k .author ≤ 8)
+pub content-author : (r : Replica) (k : Commit) → firstNo 0 (contentChecks r k) ≡ 0 → (1 ≤ k .author) × (k .author ≤ 8)
 content-author r k e =
-    let a = commit-allowed k (all-yes 0 (contentChecks r k) (refl, (refl, tt)) (sym e) .1 .0) in
+    let a = commit-allowed k (all-yes 0 (contentChecks r k) (refl, (refl, tt)) e .1 .0) in
     (a .low, a .high)
 
 -- what a successful broadcast implies
@@ -98,9 +100,9 @@ broadcast-yes r m e =
 
 -- ---- the two cases of a broadcast
 module _ (r : Replica) (m : List ℕ) where
-  pub broadcast-stops : (w : Why) → whyNo w ≡ broadcastNo r m → stop r (whyNo w) ≡ broadcastStep r m
+  pub broadcast-stops : eqb (broadcastNo r m) 0 ≡ false → stop r (broadcastNo r m) ≡ broadcastStep r m
   unfolding broadcastStep
-  broadcast-stops w e = rw (← e, why-not-0 w)
+  broadcast-stops e = rw e
 
   pub broadcast-goes : broadcastNo r m ≡ 0
       → record { replica = confirmedReplica r (commitOf m); says = confirmed (commitOf m .seq) (commitOf m .status) } ≡ broadcastStep r m

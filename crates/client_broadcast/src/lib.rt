@@ -4,17 +4,14 @@ ghost use Prim.Native.Nat.{_+_, _-_, _<_, _≤_};
 ghost use mathlib.Core.List.{_∷_, [], _++_};
 ghost use lib.ListN.{length, drop, replicate};
 ghost use Rattle.message.specs.Message.{commitOf};
-ghost use Rattle.replica.specs.Outcome.{checkNo};
-ghost use Rattle.replica.specs.Replica.{afterOf, firstNo};
+ghost use Rattle.checks.specs.Checks.{firstNo};
+ghost use Rattle.replica.specs.Replica.{afterOf};
 ghost use Rattle.client_broadcast.specs.Broadcast.{commitOk, seqOk, nextValue, formChecks, contentChecks, proofChecks, broadcastNo, confirmedReplica, broadcastStep};
 use message::Commit;
-use replica::Check;
 use replica::Done;
-use replica::Halt;
 use replica::Outcome;
 use replica::Replica;
 use replica::Stepped;
-use replica::Why;
 
 fn commit_ok(k: Commit) -> bool
     ensures { λ r. ⌜ r ≡ commitOk k ⌝ }
@@ -44,53 +41,45 @@ fn next_value(r: Replica, k: Commit) -> [u8; 32]
 }
 
 // The first checks, which need no byte of a message of another length.
-fn form_check(r: Replica, m: &[u8]) -> Check
-    ensures { λ q. ⌜ checkNo q ≡ firstNo 0 (formChecks r (now (m .entry))) ⌝ }
+fn form_check(r: Replica, m: &[u8]) -> u8
+    ensures { λ q. ⌜ q ≡ firstNo 0 (formChecks r (now (m .entry))) ⌝ }
 {
-    replica::also(
-        replica::ready(r),
-        message::is_broadcast(m),
-        Why::Halt(Halt::Form),
-    )
+    checks::also(replica::ready(r), message::is_broadcast(m), 20)
 }
 
-fn content_check(r: Replica, k: Commit) -> Check
-    ensures { λ q. ⌜ checkNo q ≡ firstNo 0 (contentChecks r k) ⌝ }
+fn content_check(r: Replica, k: Commit) -> u8
+    ensures { λ q. ⌜ q ≡ firstNo 0 (contentChecks r k) ⌝ }
 {
-    let q = replica::also(Check::Pass, commit_ok(k), Why::Halt(Halt::Content));
-    replica::also(q, seq_ok(r, k), Why::Halt(Halt::Seq))
+    let q = checks::also(0, commit_ok(k), 21);
+    checks::also(q, seq_ok(r, k), 25)
 }
 
 // Tag and digest, once the content is allowed.
-fn proof_check(r: Replica, k: Commit) -> Check
+fn proof_check(r: Replica, k: Commit) -> u8
     requires { ⌜ (1 ≤ k .author) × (k .author ≤ 8) ⌝ }
-    ensures { λ q. ⌜ checkNo q ≡ firstNo 0 (proofChecks r k) ⌝ }
+    ensures { λ q. ⌜ q ≡ firstNo 0 (proofChecks r k) ⌝ }
 {
     let keys = r.keys;
     let digest = k.digest;
     let next = next_value(r, k);
-    let q = replica::also(
-        Check::Pass,
-        verify::commit_tag_ok(keys, k),
-        Why::Halt(Halt::Tag),
-    );
-    replica::also(q, slices::equal(&digest, &next), Why::Halt(Halt::Chain))
+    let q = checks::also(0, verify::commit_tag_ok(keys, k), 22);
+    checks::also(q, slices::equal(&digest, &next), 23)
 }
 
 // All the checks of a broadcast, in their order.
-fn broadcast_check(r: Replica, m: &[u8]) -> Check
-    ensures { λ q. ⌜ checkNo q ≡ broadcastNo r (now (m .entry)) ⌝ }
+fn broadcast_check(r: Replica, m: &[u8]) -> u8
+    ensures { λ q. ⌜ q ≡ broadcastNo r (now (m .entry)) ⌝ }
 {
-    match form_check(r, m) {
-        Check::No(why) => Check::No(why),
-        Check::Pass => {
-            let k = message::read_commit(m);
-            match content_check(r, k) {
-                Check::No(why) => Check::No(why),
-                Check::Pass => proof_check(r, k),
-            }
-        }
+    let form = form_check(r, m);
+    if form != 0 {
+        return form;
     }
+    let k = message::read_commit(m);
+    let content = content_check(r, k);
+    if content != 0 {
+        return content;
+    }
+    proof_check(r, k)
 }
 
 // The chain with its first value gone and the next one in its place.
@@ -141,18 +130,16 @@ fn confirmed_replica(r: Replica, k: Commit) -> Replica
 pub fn broadcast(r: Replica, m: &[u8]) -> Stepped
     ensures { λ q. ⌜ afterOf q ≡ broadcastStep r (now (m .entry)) ⌝ }
 {
-    match broadcast_check(r, m) {
-        Check::No(why) => replica::stopped(r, why),
-        Check::Pass => {
-            let k = message::read_commit(m);
-            let after = confirmed_replica(r, k);
-            Stepped {
-                replica: after,
-                outcome: Outcome::Success(Done::Confirmed {
-                    seq: k.seq,
-                    status: k.status,
-                }),
-            }
-        }
+    let no = broadcast_check(r, m);
+    if no != 0 {
+        return replica::stopped(r, no);
+    }
+    let k = message::read_commit(m);
+    Stepped {
+        replica: confirmed_replica(r, k),
+        outcome: Outcome::Success(Done::Confirmed {
+            seq: k.seq,
+            status: k.status,
+        }),
     }
 }

@@ -2,7 +2,8 @@
 use Prim.Native.Nat.{ℕ, _+_, _<_, _≤_}
 use mathlib.Core.Path.{_≡_, refl}
 use mathlib.Core.List.{List, _++_}
-use mathlib.Core.Bool.{true}
+use mathlib.Core.Bool.{true, false, true≢false}
+use lib.Dec.{eqb}
 use lib.ListN.{length, drop}
 use borrow.Author.Tests.{leb-true, ltb-true, eqb-true}
 use Rattle.slices.specs.Bytes.{bigEndian}
@@ -11,10 +12,9 @@ use Rattle.operation.specs.Operation.{allowed, opBytes}
 use Rattle.message.specs.Message.{invokeBytes, itemBytes}
 use Rattle.verify.proofs.Laws.{invoke-tag-length}
 use Rattle.replica.specs.declared.Replica.{Replica}
-use Rattle.replica.specs.declared.Why.{Why}
-use Rattle.replica.specs.Outcome.{whyNo, invoked}
+use Rattle.replica.specs.Outcome.{isStop, invoked}
 use Rattle.replica.specs.Replica.{Step, over, stop, inRange, noCurrent}
-use Rattle.replica.proofs.Laws.{why-not-0, all-yes}
+use Rattle.checks.proofs.Laws.{all-yes, first-among}
 use Rattle.client_invoke.specs.Invoke.{invokeChecks, invokeNo, newOp, invokedReplica, invokeMessage, invokeStep}
 
 -- what a successful invoke implies
@@ -39,6 +39,12 @@ invoke-yes r kind cell amount room e =
       enough = leb-true _ _ (y .1 .1 .1 .1 .1 .0);
     }
 
+-- a no has one of the numbers of a client's checks
+pub invoke-stop : (r : Replica) (kind cell amount room : ℕ) → eqb (invokeNo r kind cell amount room) 0 ≡ false → isStop (invokeNo r kind cell amount room) ≡ true
+unfolding invokeNo
+invoke-stop r kind cell amount room e =
+    first-among isStop 0 (invokeChecks r kind cell amount room) (λ z. absurd (true≢false z)) (refl, (refl, (refl, (refl, (refl, (refl, tt)))))) e
+
 -- the message is 43 bytes long
 pub invoke-length : (r : Replica) (e : Operation) → length (invokeMessage r e) ≡ 43
 unfolding invokeMessage invokeBytes itemBytes opBytes bigEndian
@@ -49,10 +55,10 @@ module _ (r : Replica) (kind cell amount : ℕ) (out : List ℕ) where
   abbrev step : Step
   step = invokeStep r kind cell amount (length out)
 
-  pub invoke-stops : (w : Why) → whyNo w ≡ invokeNo r kind cell amount (length out)
-      → (stop r (whyNo w) ≡ step .after) × (out ≡ over (step .wrote) out)
+  pub invoke-stops : eqb (invokeNo r kind cell amount (length out)) 0 ≡ false
+      → (stop r (invokeNo r kind cell amount (length out)) ≡ step .after) × (out ≡ over (step .wrote) out)
   unfolding invokeStep
-  invoke-stops w e = (rw (← e, why-not-0 w), rw (← e, why-not-0 w))
+  invoke-stops e = (rw e, rw e)
 
   pub invoke-goes : invokeNo r kind cell amount (length out) ≡ 0
       → (record { replica = invokedReplica r (newOp r kind cell amount); says = invoked (r .count + 1) } ≡ step .after)

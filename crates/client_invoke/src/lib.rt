@@ -1,18 +1,17 @@
 // Opening a client, and invoking an operation. Definitions: specs/Invoke.antt.
 ghost use mathlib.Core.Path.{_≡_};
-ghost use lib.ListN.{length};
-ghost use Rattle.replica.specs.Outcome.{checkNo};
+ghost use Prim.Native.Nat.{_≤_};
+ghost use mathlib.Core.List.{_++_};
+ghost use lib.ListN.{length, drop};
 ghost use Rattle.replica.specs.Replica.{afterOf, over};
-ghost use Rattle.client_invoke.specs.Invoke.{openStep, invokeNo, invokedReplica, invokeStep};
+ghost use Rattle.client_invoke.specs.Invoke.{openStep, invokeNo, invokedReplica, invokeMessage, invokeStep};
 use message::Item;
 use operation::Operation;
-use replica::Check;
 use replica::Done;
 use replica::Outcome;
 use replica::Refusal;
 use replica::Replica;
 use replica::Stepped;
-use replica::Why;
 
 // Opens a client (document 01: opening a van's book).
 pub fn open(number: u8, keys: &[u8]) -> Stepped
@@ -36,23 +35,16 @@ pub fn open(number: u8, keys: &[u8]) -> Stepped
 }
 
 // The checks of an invoke, in their order.
-fn invoke_check(r: Replica, kind: u8, cell: u8, amount: u8, room: usize) -> Check
-    ensures { λ q. ⌜ checkNo q ≡ invokeNo r kind cell amount room ⌝ }
+fn invoke_check(r: Replica, kind: u8, cell: u8, amount: u8, room: usize) -> u8
+    ensures { λ q. ⌜ q ≡ invokeNo r kind cell amount room ⌝ }
 {
     let current = r.current;
     let count = r.count;
-    let q = replica::also(
-        replica::ready(r),
-        replica::no_current(current),
-        Why::Refuse(Refusal::Current),
-    );
-    let q = replica::also(
-        q,
-        operation::is_allowed(kind, cell, amount),
-        Why::Refuse(Refusal::Forbidden),
-    );
-    let q = replica::also(q, count < 1000000, Why::Refuse(Refusal::CountFull));
-    replica::also(q, 43 <= room, Why::Refuse(Refusal::Room))
+    let q = replica::ready(r);
+    let q = checks::also(q, replica::no_current(current), 4);
+    let q = checks::also(q, operation::is_allowed(kind, cell, amount), 5);
+    let q = checks::also(q, count < 1000000, 6);
+    checks::also(q, 43 <= room, 7)
 }
 
 fn invoked_replica(r: Replica, e: Operation) -> Replica
@@ -64,38 +56,42 @@ fn invoked_replica(r: Replica, e: Operation) -> Replica
     n
 }
 
+// Writes the invoke of an operation.
+fn write_message(r: Replica, e: Operation, out: &mut [u8])
+    requires { ⌜ (1 ≤ r .number) × (r .number ≤ 8) × (43 ≤ length (now out)) ⌝ }
+    ensures { λ _. ⌜ now (out .exit) ≡ invokeMessage r e ++ drop 43 (now (out .entry)) ⌝ }
+{
+    let keys = r.keys;
+    let tag = verify::invoke_tag(keys, e, r.number);
+    message_write::write_invoke(
+        out,
+        Item {
+            op: e,
+            author: r.number,
+            tag,
+        },
+    );
+}
+
 // Invokes an operation (document 01: making an entry).
 pub fn invoke(r: Replica, kind: u8, cell: u8, amount: u8, out: &mut [u8]) -> Stepped
     ensures { λ q. ⌜ (afterOf q ≡ invokeStep r kind cell amount (length (now (out .entry))) .after)
         × (now (out .exit) ≡ over (invokeStep r kind cell amount (length (now (out .entry))) .wrote) (now (out .entry))) ⌝ }
 {
-    let room = out.len();
-    match invoke_check(r, kind, cell, amount, room) {
-        Check::No(why) => replica::stopped(r, why),
-        Check::Pass => {
-            let count = r.count + 1;
-            let e = Operation {
-                count,
-                kind,
-                cell,
-                amount,
-                last: 0,
-            };
-            let keys = r.keys;
-            let tag = verify::invoke_tag(keys, e, r.number);
-            message_write::write_invoke(
-                out,
-                Item {
-                    op: e,
-                    author: r.number,
-                    tag,
-                },
-            );
-            let after = invoked_replica(r, e);
-            Stepped {
-                replica: after,
-                outcome: Outcome::Success(Done::Invoked(e.count)),
-            }
-        }
+    let no = invoke_check(r, kind, cell, amount, out.len());
+    if no != 0 {
+        return replica::stopped(r, no);
+    }
+    let e = Operation {
+        count: r.count + 1,
+        kind,
+        cell,
+        amount,
+        last: 0,
+    };
+    write_message(r, e, out);
+    Stepped {
+        replica: invoked_replica(r, e),
+        outcome: Outcome::Success(Done::Invoked(e.count)),
     }
 }

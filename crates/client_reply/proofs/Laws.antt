@@ -2,7 +2,8 @@
 use Prim.Native.Nat.{ℕ, _+_, _-_, _<_}
 use mathlib.Core.Path.{_≡_}
 use mathlib.Core.List.{List, [], _∷_, _++_}
-use mathlib.Core.Bool.{Bool}
+use mathlib.Core.Bool.{Bool, false}
+use lib.Dec.{eqb}
 use lib.ListN.{length, getD, take, drop, set, length-append}
 use lib.Seq.{take-suc-set}
 use native.Mathlib.Omega.{arith}
@@ -17,10 +18,7 @@ use Rattle.message.specs.Message.{replyCount, commitBytes, commitFields}
 use Rattle.verify.specs.Verify.{valueAt}
 use Rattle.verify.proofs.Laws.{commit-tag-length}
 use Rattle.replica.specs.declared.Replica.{Replica}
-use Rattle.replica.specs.declared.Why.{Why}
-use Rattle.replica.specs.Outcome.{whyNo}
 use Rattle.replica.specs.Replica.{Step, over, stop}
-use Rattle.replica.proofs.Laws.{why-not-0}
 use Rattle.client_reply_check.specs.ReplyChecks.{replyNo}
 use Rattle.client_reply.specs.Reply.{chainAfter, Sorted, sortItem, sortTo, isAborted, lastResponse, lastSeq, saysOf, status, repliedReplica, commitMessage, replyDone, replyStep}
 
@@ -60,9 +58,9 @@ module _ (r : Replica) (m out : List ℕ) where
   abbrev step : Step
   step = replyStep r m (length out)
 
-  pub reply-stops : (w : Why) → whyNo w ≡ replyNo r m (length out) → (stop r (whyNo w) ≡ step .after) × (out ≡ over (step .wrote) out)
+  pub reply-stops : eqb (replyNo r m (length out)) 0 ≡ false → (stop r (replyNo r m (length out)) ≡ step .after) × (out ≡ over (step .wrote) out)
   unfolding replyStep
-  reply-stops w e = (rw (← e, why-not-0 w), rw (← e, why-not-0 w))
+  reply-stops e = (rw e, rw e)
 
   pub reply-goes : replyNo r m (length out) ≡ 0 → (chain : List ℕ) (a : Bool) (x : ℕ) → chain ≡ chainAfter r m → a ≡ isAborted r m → x ≡ lastResponse r m
       → length (commitMessage r chain (replyCount m) a) ≡ 80

@@ -12,7 +12,6 @@ use message::Commit;
 use message::Item;
 use operation::Operation;
 use operation::Response;
-use replica::Check;
 use replica::Done;
 use replica::Outcome;
 use replica::Replica;
@@ -48,7 +47,7 @@ fn chain_to(c: u32, held: u32, m: &[u8], chain: [u8; 1056], n: usize) -> [u8; 10
     let mut t = chain;
     let mut k = 0;
     while k < n {
-        let i = client_reply_check::item_of(m, k);
+        let i = message::item_of(m, k);
         let u = chain_item(c, held, k, i, t);
         t = u;
         k += 1;
@@ -131,7 +130,7 @@ fn sort_to(number: u8, statuses: [u8; 32], m: &[u8], n: usize) -> Lists
     let mut l = no_lists();
     let mut k = 0;
     while k < n {
-        let i = client_reply_check::item_of(m, k);
+        let i = message::item_of(m, k);
         l = sort_item(l, number, statuses, k, i);
         k += 1;
     }
@@ -214,7 +213,7 @@ fn says(v: Verdict, seq: u32) -> Done
 }
 
 // Writes the commit.
-fn write_commit(r: Replica, chain: [u8; 1056], n: u8, aborted: bool, out: &mut [u8])
+fn write_message(r: Replica, chain: [u8; 1056], n: u8, aborted: bool, out: &mut [u8])
     requires { ⌜ (n ≤ 32) × (r .confirmed ≤ 1000000) × (1 ≤ r .number) × (r .number ≤ 8) × (80 ≤ length (now out)) ⌝ }
     ensures { λ _. ⌜ now (out .exit) ≡ commitMessage r chain n «aborted» ++ drop 80 (now (out .entry)) ⌝ }
 {
@@ -242,20 +241,17 @@ pub fn reply(r: Replica, m: &[u8], out: &mut [u8]) -> Stepped
     ensures { λ q. ⌜ (afterOf q ≡ replyStep r (now (m .entry)) (length (now (out .entry))) .after)
         × (now (out .exit) ≡ over (replyStep r (now (m .entry)) (length (now (out .entry))) .wrote) (now (out .entry))) ⌝ }
 {
-    let room = out.len();
-    match client_reply_check::reply_check(r, m, room) {
-        Check::No(why) => replica::stopped(r, why),
-        Check::Pass => {
-            let n = m[2];
-            let old = r.chain;
-            let v = decide(r, m, n as usize);
-            let chain = chain_to(r.confirmed, r.held, m, old, n as usize);
-            write_commit(r, chain, n, v.aborted, out);
-            let after = replied_replica(r, chain, n, v.aborted);
-            Stepped {
-                replica: after,
-                outcome: Outcome::Success(says(v, r.confirmed + n as u32)),
-            }
-        }
+    let no = client_reply_check::reply_check(r, m, out.len());
+    if no != 0 {
+        return replica::stopped(r, no);
+    }
+    let n = m[2];
+    let old = r.chain;
+    let v = decide(r, m, n as usize);
+    let chain = chain_to(r.confirmed, r.held, m, old, n as usize);
+    write_message(r, chain, n, v.aborted, out);
+    Stepped {
+        replica: replied_replica(r, chain, n, v.aborted),
+        outcome: Outcome::Success(says(v, r.confirmed + n as u32)),
     }
 }

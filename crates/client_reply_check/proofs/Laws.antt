@@ -1,8 +1,8 @@
 -- Laws of the checks of a reply: their stages, and what a success implies. Assumes nothing.
-use Prim.Native.Nat.{ℕ, _+_, _-_, _*_, _<_, _≤_}
+use Prim.Native.Nat.{ℕ, zero, suc, _+_, _-_, _*_, _<_, _≤_}
 use mathlib.Core.Path.{_≡_, refl, sym, ap, _∙_}
 use mathlib.Core.List.{List, [], _∷_, _++_}
-use mathlib.Core.Bool.{Bool, true, false, _&&_}
+use mathlib.Core.Bool.{Bool, true, false, _&&_, true≢false}
 use lib.Dec.{leb, eqb}
 use lib.ListN.{length}
 use native.Mathlib.Omega.{arith}
@@ -13,10 +13,11 @@ use Rattle.message.specs.declared.Item.{Item}
 use Rattle.message.specs.Message.{isReply, replyCount, replyItem}
 use Rattle.message.proofs.Laws.{reply-length, reply-count}
 use Rattle.replica.specs.declared.Replica.{Replica}
-use Rattle.replica.specs.declared.Why.{Why}
-use Rattle.replica.specs.Outcome.{whyNo}
-use Rattle.replica.specs.Replica.{inRange, firstNo, alsoNo}
-use Rattle.replica.proofs.Laws.{why-not-0, first-stays, first-append, first-zero, all-yes, every-yes, ranged}
+use Rattle.checks.specs.Checks.{firstNo, alsoNo}
+use Rattle.checks.proofs.Laws.{first-stays, first-append, first-zero, all-yes, Among, among-append, first-among, every-yes}
+use Rattle.replica.specs.Outcome.{isStop}
+use Rattle.replica.specs.Replica.{inRange}
+use Rattle.replica.proofs.Laws.{ranged}
 use Rattle.client_reply_check.specs.ReplyChecks.{seqAt, itemOk, itemChecks, proofChecks, itemsChecks, lastItem, lastOk, formChecks, lastChecks, replyNo}
 
 -- ---- an item's checks
@@ -91,9 +92,9 @@ module _ (r : Replica) (m : List ℕ) (room : ℕ) where
         enough = leb-true _ _ (y .1 .1 .1 .0);
       }
 
-  pub form-stops : (w : Why) → whyNo w ≡ firstNo 0 (formChecks r m room) → whyNo w ≡ replyNo r m room
+  pub form-stops : eqb (firstNo 0 (formChecks r m room)) 0 ≡ false → firstNo 0 (formChecks r m room) ≡ replyNo r m room
   unfolding replyNo
-  form-stops w e = sym (ap (λ (n : ℕ). firstNo n (rest r m)) (sym e) ∙ first-stays (whyNo w) (rest r m) (why-not-0 w))
+  form-stops e = sym (first-stays (firstNo 0 (formChecks r m room)) (rest r m) e)
 
   pub rest-decides : firstNo 0 (formChecks r m room) ≡ 0 → (q : ℕ) (l : Bool)
       → q ≡ firstNo 0 (itemsChecks r m (replyCount m)) → l ≡ lastOk r m → alsoNo q (l, 24) ≡ replyNo r m room
@@ -119,6 +120,18 @@ module _ (r : Replica) (m : List ℕ) (room : ℕ) where
   last-passed e =
       let n = firstNo 0 (formChecks r m room) in
       all-yes (firstNo n (itemsChecks r m (replyCount m))) (lastChecks r m) (refl, tt) (sym (first-append n (itemsChecks r m (replyCount m)) (lastChecks r m)) ∙ e) .1 .0
+
+-- a no has one of the numbers of a client's checks
+items-among : (r : Replica) (m : List ℕ) (n : ℕ) → Among isStop (itemsChecks r m n)
+unfolding itemsChecks
+items-among r m zero = tt
+items-among r m (suc k) = among-append isStop (itemsChecks r m k) (itemChecks r k (replyItem m k)) (items-among r m k) (refl, (refl, (refl, tt)))
+
+pub reply-stop : (r : Replica) (m : List ℕ) (room : ℕ) → eqb (replyNo r m room) 0 ≡ false → isStop (replyNo r m room) ≡ true
+unfolding replyNo
+reply-stop r m room e =
+    let l = among-append isStop (itemsChecks r m (replyCount m)) (lastChecks r m) (items-among r m (replyCount m)) (refl, tt) in
+    first-among isStop 0 (formChecks r m room ++ rest r m) (λ z. absurd (true≢false z)) (refl, (refl, (refl, (refl, l)))) e
 
 -- what the last check settles
 pub record Last (r : Replica) (m : List ℕ) : Type 0 where

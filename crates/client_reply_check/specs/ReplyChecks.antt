@@ -9,7 +9,8 @@ use Rattle.message.specs.declared.Item.{Item}
 use Rattle.message.specs.Message.{isReply, replyCount, replyItem}
 use Rattle.verify.specs.Verify.{itemTagOk, valueAt, linkValue}
 use Rattle.replica.specs.declared.Replica.{Replica}
-use Rattle.replica.specs.Replica.{every, firstNo, readyChecks}
+use Rattle.checks.specs.Checks.{every, firstNo}
+use Rattle.replica.specs.Replica.{readyChecks}
 
 -- ---- the checks
 -- "`RE` lists places c + 1, c + 2 and on": the sequence number of item k, counted from 0
@@ -48,9 +49,12 @@ lastItem m = replyItem m (replyCount m - 1)
 unfoldable pub lastOk : Replica → List ℕ → Bool
 lastOk r m = every true (leb 1 (replyCount m) ∷ sameOp (lastItem m .op) (r .current) ∷ eqb (lastItem m .author) (r .number) ∷ [])
 
--- 8, 3, 20, 7
+-- 8, 3, 20; and after them 7
+abbrev pub markChecks : Replica → List ℕ → List (Bool × ℕ)
+markChecks r m = readyChecks r ++ ((isReply m, 20) ∷ [])
+
 abbrev pub formChecks : Replica → List ℕ → ℕ → List (Bool × ℕ)
-formChecks r m room = readyChecks r ++ ((isReply m, 20) ∷ (leb 80 room, 7) ∷ [])
+formChecks r m room = markChecks r m ++ ((leb 80 room, 7) ∷ [])
 
 abbrev pub lastChecks : Replica → List ℕ → List (Bool × ℕ)
 lastChecks r m = (lastOk r m, 24) ∷ []

@@ -2,34 +2,22 @@
 ghost use mathlib.Core.Path.{_≡_};
 ghost use Prim.Native.Nat.{_+_, _*_, _<_, _≤_};
 ghost use lib.ListN.{length};
-ghost use Rattle.message.specs.Message.{replyCount, replyItem};
-ghost use Rattle.replica.specs.Outcome.{checkNo};
-ghost use Rattle.replica.specs.Replica.{firstNo};
-ghost use Rattle.client_reply_check.specs.ReplyChecks.{itemOk, itemValue, itemChainOk, proofChecks, itemChecks, itemsChecks, lastOk, formChecks, replyNo};
+ghost use Rattle.message.specs.Message.{replyCount};
+ghost use Rattle.checks.specs.Checks.{firstNo};
+ghost use Rattle.client_reply_check.specs.ReplyChecks.{itemOk, itemValue, itemChainOk, proofChecks, itemChecks, itemsChecks, lastOk, markChecks, formChecks, replyNo};
 use message::Item;
-use replica::Check;
-use replica::Halt;
-use replica::Refusal;
 use replica::Replica;
-use replica::Why;
 
-// Item `k` of a reply.
-pub fn item_of(m: &[u8], k: usize) -> Item
-    requires { ⌜ 44 + k * 41 ≤ length (now m) ⌝ }
-    ensures { λ r. ⌜ r ≡ replyItem (now (m .entry)) k ⌝ }
+fn mark_check(r: Replica, m: &[u8]) -> u8
+    ensures { λ q. ⌜ q ≡ firstNo 0 (markChecks r (now (m .entry))) ⌝ }
 {
-    message::read_item(m, 3 + k * 41)
+    checks::also(replica::ready(r), message::is_reply(m), 20)
 }
 
-fn form_check(r: Replica, m: &[u8], room: usize) -> Check
-    ensures { λ q. ⌜ checkNo q ≡ firstNo 0 (formChecks r (now (m .entry)) room) ⌝ }
+fn form_check(r: Replica, m: &[u8], room: usize) -> u8
+    ensures { λ q. ⌜ q ≡ firstNo 0 (formChecks r (now (m .entry)) room) ⌝ }
 {
-    let q = replica::also(
-        replica::ready(r),
-        message::is_reply(m),
-        Why::Halt(Halt::Form),
-    );
-    replica::also(q, 80 <= room, Why::Refuse(Refusal::Room))
+    checks::also(mark_check(r, m), 80 <= room, 7)
 }
 
 fn item_ok(c: u32, k: usize, i: Item) -> bool
@@ -65,56 +53,49 @@ fn item_chain_ok(c: u32, held: u32, chain: [u8; 1056], k: usize, i: Item) -> boo
 }
 
 // Tag and chain of item `k`, once its content is allowed.
-fn item_proof(r: Replica, k: usize, i: Item) -> Check
+fn item_proof(r: Replica, k: usize, i: Item) -> u8
     requires { ⌜ (k < 32) × (r .confirmed ≤ 1000000) × (1 ≤ i .author) × (i .author ≤ 8) ⌝ }
-    ensures { λ q. ⌜ checkNo q ≡ firstNo 0 (proofChecks r k i) ⌝ }
+    ensures { λ q. ⌜ q ≡ firstNo 0 (proofChecks r k i) ⌝ }
 {
     let keys = r.keys;
     let chain = r.chain;
-    let q = replica::also(
-        Check::Pass,
-        verify::item_tag_ok(keys, i),
-        Why::Halt(Halt::Tag),
-    );
-    replica::also(
-        q,
-        item_chain_ok(r.confirmed, r.held, chain, k, i),
-        Why::Halt(Halt::Chain),
-    )
+    let q = checks::also(0, verify::item_tag_ok(keys, i), 22);
+    checks::also(q, item_chain_ok(r.confirmed, r.held, chain, k, i), 23)
 }
 
 // The checks of item `k`.
-fn item_check(r: Replica, k: usize, i: Item) -> Check
+fn item_check(r: Replica, k: usize, i: Item) -> u8
     requires { ⌜ (k < 32) × (r .confirmed ≤ 1000000) ⌝ }
-    ensures { λ q. ⌜ checkNo q ≡ firstNo 0 (itemChecks r k i) ⌝ }
+    ensures { λ q. ⌜ q ≡ firstNo 0 (itemChecks r k i) ⌝ }
 {
     if item_ok(r.confirmed, k, i) {
         item_proof(r, k, i)
     } else {
-        Check::No(Why::Halt(Halt::Content))
+        21
     }
 }
 
 // The first no so far, else that of item `k`.
-fn item_also(so_far: Check, r: Replica, k: usize, i: Item) -> Check
+fn item_also(so_far: u8, r: Replica, k: usize, i: Item) -> u8
     requires { ⌜ (k < 32) × (r .confirmed ≤ 1000000) ⌝ }
-    ensures { λ q. ⌜ checkNo q ≡ firstNo (checkNo «so_far») (itemChecks r k i) ⌝ }
+    ensures { λ q. ⌜ q ≡ firstNo «so_far» (itemChecks r k i) ⌝ }
 {
-    match so_far {
-        Check::No(w) => Check::No(w),
-        Check::Pass => item_check(r, k, i),
+    if so_far != 0 {
+        so_far
+    } else {
+        item_check(r, k, i)
     }
 }
 
 // The checks of the first `n` items.
-fn items_check(r: Replica, m: &[u8], n: usize) -> Check
+fn items_check(r: Replica, m: &[u8], n: usize) -> u8
     requires { ⌜ (n ≤ 32) × (r .confirmed ≤ 1000000) × (3 + n * 41 ≤ length (now m)) ⌝ }
-    ensures { λ q. ⌜ checkNo q ≡ firstNo 0 (itemsChecks r (now (m .entry)) n) ⌝ }
+    ensures { λ q. ⌜ q ≡ firstNo 0 (itemsChecks r (now (m .entry)) n) ⌝ }
 {
-    let mut q = Check::Pass;
+    let mut q = 0u8;
     let mut k = 0;
     while k < n {
-        q = item_also(q, r, k, item_of(m, k));
+        q = item_also(q, r, k, message::item_of(m, k));
         k += 1;
     }
     q
@@ -125,7 +106,7 @@ fn last_ok(r: Replica, m: &[u8], n: usize) -> bool
     ensures { λ q. ⌜ q ≡ lastOk r (now (m .entry)) ⌝ }
 {
     if 1 <= n {
-        let i = item_of(m, n - 1);
+        let i = message::item_of(m, n - 1);
         let e = i.op;
         let current = r.current;
         operation::same_op(e, current) & (i.author == r.number)
@@ -135,15 +116,14 @@ fn last_ok(r: Replica, m: &[u8], n: usize) -> bool
 }
 
 // All the checks of a reply, in their order.
-pub fn reply_check(r: Replica, m: &[u8], room: usize) -> Check
-    ensures { λ q. ⌜ checkNo q ≡ replyNo r (now (m .entry)) room ⌝ }
+pub fn reply_check(r: Replica, m: &[u8], room: usize) -> u8
+    ensures { λ q. ⌜ q ≡ replyNo r (now (m .entry)) room ⌝ }
 {
-    match form_check(r, m, room) {
-        Check::No(why) => Check::No(why),
-        Check::Pass => {
-            let n = m[2] as usize;
-            let q = items_check(r, m, n);
-            replica::also(q, last_ok(r, m, n), Why::Halt(Halt::Last))
-        }
+    let form = form_check(r, m, room);
+    if form != 0 {
+        return form;
     }
+    let n = m[2] as usize;
+    let q = items_check(r, m, n);
+    checks::also(q, last_ok(r, m, n), 24)
 }

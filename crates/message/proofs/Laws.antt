@@ -33,9 +33,6 @@ module _ (z A B : List ℕ) (at a b : ℕ) (l : at ≤ length z) (ha : at + leng
       → put (put (put (put z at A) a B) b C) c D ≡ take at z ++ A ++ B ++ C ++ D ++ drop d z
   four-parts C D c d hc hd = rw (three-parts C c hc) (put-next (take at z ++ A ++ B ++ C) z D c d (simp (length-append, length-take) (omega arith)) hd)
 
-pub part-all : (z s : List ℕ) (n : ℕ) → length z ≡ n → length s ≡ n → put z 0 s ≡ s
-part-all z s n e h = let g : length z ≤ 0 + length s = omega arith in let d : drop (0 + length s) z ≡ [] = drop-of-length-le z g in rw d (append-nil s)
-
 pub front-parts : (a b : ℕ) (e : Operation) (author seq : ℕ) (digest : List ℕ) (status : ℕ) → length digest ≡ 32
     → put (put (put (put (replicate 48 0) 0 (a ∷ b ∷ opBytes e ++ (author ∷ []))) 11 (bigEndian 4 seq)) 15 digest) 47 (status ∷ [])
     ≡ a ∷ b ∷ opBytes e ++ (author ∷ bigEndian 4 seq) ++ digest ++ (status ∷ [])

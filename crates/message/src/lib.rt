@@ -2,11 +2,11 @@
 use operation::Operation;
 ghost use mathlib.Core.Path.{_≡_};
 ghost use mathlib.Core.List.{[], _∷_, _++_};
-ghost use Prim.Native.Nat.{_+_, _≤_};
-ghost use lib.ListN.{length, take, drop};
+ghost use Prim.Native.Nat.{_+_, _*_, _≤_};
+ghost use lib.ListN.{length};
 ghost use Rattle.slices.specs.Bytes.{bigEndian};
 ghost use Rattle.operation.specs.Operation.{opBytes, noOp};
-ghost use Rattle.message.specs.Message.{invokeString, commitString, chainString, marked, isInvoke, isReply, isCommit, isBroadcast, itemAt, commitOf};
+ghost use Rattle.message.specs.Message.{invokeString, commitString, chainString, marked, isInvoke, isReply, isCommit, isBroadcast, itemAt, replyItem, commitOf};
 ghost use Rattle.message.specs.Readers.{noItem, noCommit, readInvoke, readCommit, readBroadcast, readReply};
 
 // An operation with its author and the author's tag: what an invoke carries, and each item of a reply.
@@ -141,17 +141,6 @@ pub fn is_broadcast(m: &[u8]) -> bool
     is_marked(66, 82, m) & (m.len() == 80)
 }
 
-// The 32 bytes at `i`.
-pub fn part(m: &[u8], i: usize) -> [u8; 32]
-    requires { ⌜ i + 32 ≤ length (now m) ⌝ }
-    ensures { λ r. ⌜ r ≡ take 32 (drop i (now (m .entry))) ⌝ }
-{
-    let mut t = [0u8; 32];
-    let e = i + 32;
-    slices::copy_to(&mut t, 0, &m[i..e]);
-    t
-}
-
 // The item at byte `i`.
 pub fn read_item(m: &[u8], i: usize) -> Item
     requires { ⌜ i + 41 ≤ length (now m) ⌝ }
@@ -160,8 +149,16 @@ pub fn read_item(m: &[u8], i: usize) -> Item
     Item {
         op: operation::read_op(m, i),
         author: m[i + 8],
-        tag: part(m, i + 9),
+        tag: slices::part(m, i + 9),
     }
+}
+
+// Item `k` of a reply.
+pub fn item_of(m: &[u8], k: usize) -> Item
+    requires { ⌜ 44 + k * 41 ≤ length (now m) ⌝ }
+    ensures { λ r. ⌜ r ≡ replyItem (now (m .entry)) k ⌝ }
+{
+    read_item(m, 3 + k * 41)
 }
 
 // The commit in a commit or broadcast.
@@ -173,9 +170,9 @@ pub fn read_commit(m: &[u8]) -> Commit
         op: operation::read_op(m, 2),
         author: m[10],
         seq: slices::word_at(m, 11),
-        digest: part(m, 15),
+        digest: slices::part(m, 15),
         status: m[47],
-        tag: part(m, 48),
+        tag: slices::part(m, 48),
     }
 }
 

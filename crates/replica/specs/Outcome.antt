@@ -1,5 +1,7 @@
 -- What a call tells: document 01's number and values for each case of the enums.
 use Prim.Native.Nat.{ℕ}
+use mathlib.Core.Bool.{Bool, _&&_, _||_}
+use lib.Dec.{leb}
 use Rattle.operation.specs.Operation.{Response}
 use Rattle.replica.specs.declared.Refusal.{Refusal}
 use Rattle.replica.specs.declared.Refusal.the-variants as R
@@ -9,10 +11,6 @@ use Rattle.replica.specs.declared.Done.{Done}
 use Rattle.replica.specs.declared.Done.the-variants as D
 use Rattle.replica.specs.declared.Outcome.{Outcome}
 use Rattle.replica.specs.declared.Outcome.the-variants as O
-use Rattle.replica.specs.declared.Why.{Why}
-use Rattle.replica.specs.declared.Why.the-variants as W
-use Rattle.replica.specs.declared.Check.{Check}
-use Rattle.replica.specs.declared.Check.the-variants as K
 
 -- "A call's outcome is a success (an answer, "aside" or a confirmation), a refusal or a halt, each with its own data."
 pub data Told : Type 0 where
@@ -44,6 +42,13 @@ haltNo H.Chain = 23
 haltNo H.Last = 24
 haltNo H.Seq = 25
 
+-- which numbers are halts, and which a client's checks have
+abbrev pub isHalt : ℕ → Bool
+isHalt n = leb 20 n && leb n 25
+
+abbrev pub isStop : ℕ → Bool
+isStop n = isHalt n || (leb 1 n && leb n 8)
+
 -- "A made entry brings its own count"; "An answer and "aside" bring their place; a confirmation brings place and status."
 abbrev pub doneTold : Done → Told
 doneTold D.Opened = opened
@@ -56,13 +61,3 @@ abbrev pub told : Outcome → Told
 told (O.Success d) = doneTold d
 told (O.Refused r) = refused (refusalNo r)
 told (O.Halted h) = halted (haltNo h)
-
--- a check's number
-abbrev pub whyNo : Why → ℕ
-whyNo (W.Refuse r) = refusalNo r
-whyNo (W.Halt h) = haltNo h
-
--- the first check with a no: its number, and 0 where each has a yes
-abbrev pub checkNo : Check → ℕ
-checkNo K.Pass = 0
-checkNo (K.No w) = whyNo w

@@ -1,15 +1,16 @@
 -- The client's state (document 01: the van's book): fresh, in range (check 8), refused, halted; and checks in order.
-use Prim.Native.Nat.{ℕ, zero, suc, _+_, _-_, _*_}
+use Prim.Native.Nat.{ℕ, zero, suc, _+_, _*_}
 use mathlib.Core.List.{List, [], _∷_, _++_}
 use mathlib.Core.Bool.{Bool, true, cond, _&&_, _||_}
-use lib.ListN.{length, take, drop, replicate}
+use lib.ListN.{length, drop, replicate}
 use lib.Dec.{leb, eqb}
 use Rattle.slices.specs.Bytes.{all, isZero}
+pub use Rattle.checks.specs.Checks.{every, alsoNo, firstNo}
 use Rattle.operation.specs.declared.Operation.{Operation}
 use Rattle.operation.specs.Operation.{opOk, noOp}
 use Rattle.replica.specs.declared.Replica.{Replica}
 use Rattle.replica.specs.declared.Stepped.{Stepped}
-use Rattle.replica.specs.Outcome.{Told, refused, halted, told}
+use Rattle.replica.specs.Outcome.{Told, refused, halted, told, isHalt}
 
 -- ---- the state
 -- "A fresh book has its number and the keys; the rest is zero, none or clear."
@@ -32,16 +33,7 @@ freshReplica n keys =
 abbrev pub zeroReplica : Replica
 zeroReplica = freshReplica 0 (replicate 256 0)
 
--- "Each van has a 32-byte key; every van holds all eight, van 1's first."
-unfoldable pub keyOf : List ℕ → ℕ → List ℕ
-keyOf keys n = take 32 (drop ((n - 1) * 32) keys)
-
 -- ---- "fields in range? 8"
--- whether each of the tests is a yes, after those so far
-abbrev pub every : Bool → List Bool → Bool
-every so-far [] = so-far
-every so-far (b ∷ bs) = every (so-far && b) bs
-
 -- no current operation: "no entry in hand"
 abbrev pub noCurrent : Operation → Bool
 noCurrent e = every true (eqb (e .count) 0 ∷ eqb (e .kind) 0 ∷ eqb (e .cell) 0 ∷ eqb (e .amount) 0 ∷ eqb (e .last) 0 ∷ [])
@@ -56,7 +48,7 @@ numbersOk r =
     ∷ leb (r .confirmed) 1000000
     ∷ leb (r .held) 32
     ∷ leb (r .confirmed + r .held) 1000000
-    ∷ (eqb (r .halt) 0 || (leb 20 (r .halt) && leb (r .halt) 25))
+    ∷ (eqb (r .halt) 0 || isHalt (r .halt))
     ∷ [])
 
 -- "statuses 1, 0 or none" (stored as 1, 2 and 0); "unused slots zero": statuses past the places held, chain values past the last held
@@ -72,17 +64,7 @@ arraysOk r =
 unfoldable pub inRange : Replica → Bool
 inRange r = every true (numbersOk r ∷ (noCurrent (r .current) || opOk (r .current)) ∷ arraysOk r ∷ [])
 
--- ---- "The first no decides."
--- one more check after those so far, each a test with its number: the number of the first no stays, and 0 says that there is none
-abbrev pub alsoNo : ℕ → Bool × ℕ → ℕ
-alsoNo zero q = cond (q .0) 0 (q .1)
-alsoNo (suc n) q = suc n
-
--- the number of the first check answered no, after that so far
-abbrev pub firstNo : ℕ → List (Bool × ℕ) → ℕ
-firstNo n [] = n
-firstNo n (q ∷ qs) = firstNo (alsoNo n q) qs
-
+-- ---- checks in order
 -- "Every later van call … first: fields in range? 8. … For vans: halt mark clear? 3."
 abbrev pub readyChecks : Replica → List (Bool × ℕ)
 readyChecks r = (inRange r, 8) ∷ (eqb (r .halt) 0, 3) ∷ []
@@ -120,7 +102,7 @@ halt r n = record { replica = haltedAt r n; says = halted n }
 
 -- "Numbers below 20 and from 30 are refusals …. 20 to 25 are halts"
 abbrev pub stop : Replica → ℕ → After
-stop r n = cond (leb 20 n && leb n 25) (halt r n) (refuse r n)
+stop r n = cond (isHalt n) (halt r n) (refuse r n)
 
 -- ---- a call's step: the replica after it and what it tells, and the bytes written to the front of the buffer
 pub record Step : Type 0 where

@@ -1,7 +1,10 @@
 // The client's state, the outcomes of its calls, check 8 and checks in order. Definitions: specs/Outcome.antt, specs/Replica.antt.
 ghost use mathlib.Core.Path.{_≡_};
-ghost use Rattle.replica.specs.Outcome.{checkNo, refusalNo, haltNo, whyNo};
-ghost use Rattle.replica.specs.Replica.{freshReplica, noCurrent, numbersOk, arraysOk, inRange, alsoNo, firstNo, readyChecks, afterOf, refuse, halt, stop};
+ghost use Prim.Native.Nat.{_≤_};
+ghost use mathlib.Core.Bool.{true};
+ghost use Rattle.checks.specs.Checks.{firstNo};
+ghost use Rattle.replica.specs.Outcome.{refusalNo, haltNo, isHalt, isStop};
+ghost use Rattle.replica.specs.Replica.{freshReplica, noCurrent, numbersOk, arraysOk, inRange, readyChecks, afterOf, refuse, halt, stop};
 use operation::Operation;
 use operation::Response;
 
@@ -65,18 +68,6 @@ pub struct Stepped {
     pub outcome: Outcome,
 }
 
-// What a check's no leads to.
-pub enum Why {
-    Refuse(Refusal),
-    Halt(Halt),
-}
-
-// The first check answered no, if any.
-pub enum Check {
-    Pass,
-    No(Why),
-}
-
 // Whether there is no current operation.
 pub fn no_current(e: Operation) -> bool
     ensures { λ r. ⌜ r ≡ noCurrent e ⌝ }
@@ -94,7 +85,7 @@ fn numbers_ok(r: Replica) -> bool
         & (r.confirmed <= 1000000)
         & (r.held <= 32)
         & (last <= 1000000)
-        & ((r.halt == 0) | ((20 <= r.halt) & (r.halt <= 25)))
+        & ((r.halt == 0) | is_halt(r.halt))
 }
 
 fn arrays_ok(r: Replica) -> bool
@@ -181,42 +172,74 @@ pub fn halt_number(why: Halt) -> u8
     }
 }
 
+// The refusal of this number.
+fn refusal_of(number: u8) -> Refusal
+    requires { ⌜ (1 ≤ number) × (number ≤ 8) ⌝ }
+    ensures { λ r. ⌜ refusalNo r ≡ number ⌝ }
+{
+    match number {
+        1 => Refusal::Number,
+        2 => Refusal::Keys,
+        3 => Refusal::HaltMark,
+        4 => Refusal::Current,
+        5 => Refusal::Forbidden,
+        6 => Refusal::CountFull,
+        7 => Refusal::Room,
+        _ => Refusal::Range,
+    }
+}
+
+// The halt of this number.
+fn halt_of(number: u8) -> Halt
+    requires { ⌜ (20 ≤ number) × (number ≤ 25) ⌝ }
+    ensures { λ r. ⌜ haltNo r ≡ number ⌝ }
+{
+    match number {
+        20 => Halt::Form,
+        21 => Halt::Content,
+        22 => Halt::Tag,
+        23 => Halt::Chain,
+        24 => Halt::Last,
+        _ => Halt::Seq,
+    }
+}
+
+// Whether a number is a halt's.
+fn is_halt(number: u8) -> bool
+    ensures { λ r. ⌜ r ≡ isHalt number ⌝ }
+{
+    (20 <= number) & (number <= 25)
+}
+
 // A halt: the halt mark set, the rest as it was.
-fn halted(replica: Replica, why: Halt) -> Stepped
-    ensures { λ r. ⌜ afterOf r ≡ halt replica (haltNo why) ⌝ }
+fn halted(replica: Replica, number: u8) -> Stepped
+    requires { ⌜ (20 ≤ number) × (number ≤ 25) ⌝ }
+    ensures { λ r. ⌜ afterOf r ≡ halt replica number ⌝ }
 {
     let mut r = replica;
-    r.halt = halt_number(why);
+    r.halt = number;
     Stepped {
         replica: r,
-        outcome: Outcome::Halted(why),
+        outcome: Outcome::Halted(halt_of(number)),
     }
 }
 
 // A check's no, carried out.
-pub fn stopped(replica: Replica, why: Why) -> Stepped
-    ensures { λ r. ⌜ afterOf r ≡ stop replica (whyNo why) ⌝ }
+pub fn stopped(replica: Replica, number: u8) -> Stepped
+    requires { ⌜ isStop number ≡ true ⌝ }
+    ensures { λ r. ⌜ afterOf r ≡ stop replica number ⌝ }
 {
-    match why {
-        Why::Refuse(r) => refused(replica, r),
-        Why::Halt(h) => halted(replica, h),
-    }
-}
-
-// One more check after those so far: the first no stays.
-pub fn also(so_far: Check, yes: bool, why: Why) -> Check
-    ensures { λ r. ⌜ checkNo r ≡ alsoNo (checkNo «so_far») (yes, whyNo why) ⌝ }
-{
-    match so_far {
-        Check::No(w) => Check::No(w),
-        Check::Pass => if yes { Check::Pass } else { Check::No(why) },
+    if is_halt(number) {
+        halted(replica, number)
+    } else {
+        refused(replica, refusal_of(number))
     }
 }
 
 // Checks 8 and 3, which every call on a replica asks first.
-pub fn ready(r: Replica) -> Check
-    ensures { λ q. ⌜ checkNo q ≡ firstNo 0 (readyChecks r) ⌝ }
+pub fn ready(r: Replica) -> u8
+    ensures { λ q. ⌜ q ≡ firstNo 0 (readyChecks r) ⌝ }
 {
-    let q = also(Check::Pass, in_range(r), Why::Refuse(Refusal::Range));
-    also(q, r.halt == 0, Why::Refuse(Refusal::HaltMark))
+    let q = checks::also(0, in_range(r), 8);
+    checks::also(q, r.halt == 0, 3)
 }

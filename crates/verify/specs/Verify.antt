@@ -1,5 +1,5 @@
 -- The evidence in messages: tags by the authors' keys, and the hash chain. Document 01, "Marks and messages".
-use Prim.Native.Nat.{ℕ, _*_}
+use Prim.Native.Nat.{ℕ, _-_, _*_}
 use mathlib.Core.List.{List}
 use mathlib.Core.Bool.{Bool}
 use lib.ListN.{take, drop}
@@ -10,7 +10,10 @@ use Rattle.operation.specs.declared.Operation.{Operation}
 use Rattle.message.specs.declared.Item.{Item}
 use Rattle.message.specs.declared.Commit.{Commit}
 use Rattle.message.specs.Message.{invokeString, commitString, chainString}
-use Rattle.replica.specs.Replica.{keyOf}
+
+-- "Each van has a 32-byte key; every van holds all eight, van 1's first."
+unfoldable pub keyOf : List ℕ → ℕ → List ℕ
+keyOf keys n = take 32 (drop ((n - 1) * 32) keys)
 
 -- "The `IN` tag is made with the author's key over `IN`, entry, author"
 unfoldable pub invokeTag : List ℕ → Operation → ℕ → List ℕ

@@ -3,8 +3,7 @@ ghost use mathlib.Core.Path.{_≡_};
 ghost use Prim.Native.Nat.{_≤_};
 ghost use lib.ListN.{length};
 ghost use Rattle.hmac.specs.Hmac.{hmac};
-ghost use Rattle.replica.specs.Replica.{keyOf};
-ghost use Rattle.verify.specs.Verify.{invokeTag, commitTag, itemTagOk, commitTagOk, valueAt, linkValue};
+ghost use Rattle.verify.specs.Verify.{keyOf, invokeTag, commitTag, itemTagOk, commitTagOk, valueAt, linkValue};
 use message::Commit;
 use message::Item;
 use operation::Operation;
@@ -71,7 +70,7 @@ pub fn value_at(chain: [u8; 1056], k: usize) -> [u8; 32]
     requires { ⌜ k ≤ 32 ⌝ }
     ensures { λ r. ⌜ r ≡ valueAt k chain ⌝ }
 {
-    message::part(&chain, k * 32)
+    slices::part(&chain, k * 32)
 }
 
 // The chain value at `seq`, from the one before it.

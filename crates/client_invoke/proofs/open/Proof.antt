@@ -6,7 +6,7 @@ use lib.ListN.{replicate}
 use Rattle.replica.specs.declared.Replica.{Replica}
 use Rattle.replica.specs.Outcome.{opened}
 use Rattle.replica.specs.Replica.{freshReplica}
-use Rattle.message.proofs.Laws.{part-all}
+use Rattle.slices.proofs.Laws.{part-all}
 use borrow.Author.Needs.{needs}
 use Rattle.client_invoke.proofs.open.Statement.{statement}
 use Rattle.client_invoke.proofs.open.Tie as tie

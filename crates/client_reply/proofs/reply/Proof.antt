@@ -1,42 +1,41 @@
 use Rattle.client_reply.specs.Reply.{chainAfter}
 use Rattle.client_reply_check.specs.ReplyChecks.{replyNo}
-use mathlib.Core.Path.{_≡_, refl, sym, ap, _∙_}
+use mathlib.Core.Path.{_≡_, refl, sym, _∙_}
 use Rattle.client_reply.proofs.Laws.{reply-stops, reply-goes, commit-message-length}
-use Rattle.client_reply_check.proofs.Laws.{Formed, form-yes, reply-formed, last-passed, last-yes}
+use Rattle.client_reply_check.proofs.Laws.{Formed, form-yes, reply-stop, reply-formed, last-passed, last-yes}
 use native.Mathlib.Omega.{arith}
-use Rattle.replica.specs.Outcome.{checkNo}
 use lib.ListN.{length, getD}
 use Prim.Native.Nat.{_-_, _≤_}
 use Rattle.verify.proofs.Laws.{value-length}
 use borrow.Author.Needs.{needs}
+use borrow.Author.Tests.{ne-eqb}
+use mathlib.Core.Bool.{false}
+use lib.Dec.{eqb}
 use Rattle.client_reply.proofs.reply.Statement.{statement}
 use Rattle.client_reply.proofs.reply.Tie as tie
 
--- where no check has a no
-passed : (c : tie.After-enum-told) → let a = c .before .before .before .before .before .args in replyNo (a .r) (a .m .now) (length (a .out .now)) ≡ 0
-passed c = sym (c .before .before .reply-check .ensures) ∙ ap checkNo (c .enum-told .given .1)
+-- where a check has a no, and where none has
+stopped : (c : tie.Then1) → let a = c .before .before .before .before .args in eqb (replyNo (a .r) (a .m .now) (length (a .out .now))) 0 ≡ false
+stopped c = rw (sym (c .before .reply-check .ensures)) (ne-eqb _ 0 (c .if1 .taken))
 
-yes : (c : tie.After-enum-told) → let a = c .before .before .before .before .before .args in Formed (a .r) (a .m .now) (length (a .out .now))
+passed : (c : tie.Else1) → let a = c .before .before .before .before .args in replyNo (a .r) (a .m .now) (length (a .out .now)) ≡ 0
+passed c = sym (c .before .reply-check .ensures) ∙ c .if1 .left
+
+yes : (c : tie.Else1) → let a = c .before .before .before .before .args in Formed (a .r) (a .m .now) (length (a .out .now))
 yes c = form-yes _ _ _ (reply-formed _ _ _ (passed c))
 
-some : (c : tie.After-enum-told) → 1 ≤ getD (c .before .before .before .before .before .args .m .now) 2 0
+some : (c : tie.Else1) → 1 ≤ getD (c .before .before .before .before .args .m .now) 2 0
 some c = last-yes _ _ (last-passed _ _ _ (passed c)) .some
 
-chained : (c : tie.After-says) → let a = c .before .before .before .before .before .before .before .before .before .before .before .before .before .before .before .before .args in c .before .before .before .before .before .before .before .chain-to .result ≡ chainAfter (a .r) (a .m .now)
+chained : (c : tie.After-says) → let a = c .before .before .before .before .before .before .before .before .before .before .before .before .before .before .before .args in c .before .before .before .before .before .before .before .chain-to .result ≡ chainAfter (a .r) (a .m .now)
 unfolding chainAfter
 chained c = c .before .before .before .before .before .before .before .chain-to .ensures
 
 reply-check-requires : tie.Need-reply-check-requires
 reply-check-requires c κs = search needs
 
-enum-known-why : tie.Need-enum-known-why
-enum-known-why c = search needs
-
 stopped-requires : tie.Need-stopped-requires
-stopped-requires c κs = search needs
-
-enum-told : tie.Need-enum-told
-enum-told c = search needs
+stopped-requires c κs = rw (c .before .reply-check .ensures) (reply-stop _ _ _ (stopped c))
 
 shared-slice-read-n : tie.Need-shared-slice-read-n
 shared-slice-read-n c = let y = yes (c .before) in omega (arith, y .long)
@@ -53,8 +52,8 @@ cast-chain-to c = omega (arith, c .before .before .shared-slice-known2 .given 2)
 chain-to-requires : tie.Need-chain-to-requires
 chain-to-requires c κs = let y = yes (c .before .before .before) in (y .few, y .early, omega (arith, y .long))
 
-write-commit-requires : tie.Need-write-commit-requires
-write-commit-requires c κs = let y = yes (c .before .before .before .before .before) in (y .few, y .early, y .low, y .high, y .enough)
+write-message-requires : tie.Need-write-message-requires
+write-message-requires c κs = let y = yes (c .before .before .before .before .before) in (y .few, y .early, y .low, y .high, y .enough)
 
 replied-replica-requires : tie.Need-replied-replica-requires
 replied-replica-requires c κs = (some (c .before .before .before .before .before .before .before .before), yes (c .before .before .before .before .before .before .before .before) .few)
@@ -70,17 +69,16 @@ says-requires c κs = search needs
 
 returns : tie.Need-returns
 returns c =
-    let a = c .before .before .before .before .before .before .before .args in
-    let w = c .before .before .why in
-    let l = reply-stops (a .r) (a .m .now) (a .out .now) (w .given .0 .0) (sym (ap checkNo (w .given .1)) ∙ c .before .before .before .before .reply-check .ensures) in
-    (c .stopped .ensures ∙ l .0, l .1)
+    let a = c .before .before .before .before .before .args in
+    let l = reply-stops (a .r) (a .m .now) (a .out .now) (stopped (c .before)) in
+    (c .stopped .ensures ∙ rw (c .before .before .reply-check .ensures) (l .0), l .1)
 
 same-length : tie.Need-same-length
 same-length c = search needs
 
 returns-2 : tie.Need-returns-2
 returns-2 c =
-    let a = c .before .before .before .before .before .before .before .before .before .before .before .before .before .before .before .before .args in
+    let a = c .before .before .before .before .before .before .before .before .before .before .before .before .before .before .before .args in
     let k = c .before .before .before .before .before .before .before .before .before .before .before in
     let v = c .before .before .before .before .before .before .before .before .decide .ensures in
     let t = c .before .before .before .before .before .before .before .chain-to .result in
@@ -90,26 +88,24 @@ returns-2 c =
     let h : length t ≡ 1056 = search (needs, o) in
     let w = commit-message-length (a .r) t n (c .before .before .before .before .before .before .before .before .decide .result .aborted) (value-length n t (omega arith)) in
     let l = reply-goes (a .r) (a .m .now) (a .out .now) (passed k) t _ _ (chained c) (v .0) (v .1) w in
-    (rw (c .before .before .replied-replica .ensures, c .says .ensures) (l .0), c .before .before .before .before .before .write-commit .ensures ∙ l .1)
+    (rw (c .before .before .replied-replica .ensures, c .says .ensures) (l .0), c .before .before .before .before .before .write-message .ensures ∙ l .1)
 
 pub reply-spec : {M : Type 1} → statement M
 reply-spec =
     tie.close
     (tie.spec
     reply-check-requires
-    enum-known-why
     stopped-requires
-    enum-told
+    returns
     shared-slice-read-n
     cast-decide
     decide-requires
     cast-chain-to
     chain-to-requires
-    write-commit-requires
+    write-message-requires
     replied-replica-requires
     cast-says
     add-says
     says-requires
-    returns
     same-length
     returns-2)

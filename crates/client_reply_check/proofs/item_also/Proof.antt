@@ -1,25 +1,23 @@
-use Rattle.client_reply_check.specs.ReplyChecks.{itemChecks}
-use mathlib.Core.Path.{sym}
-use Rattle.replica.proofs.Laws.{first-stays, why-not-0}
+use mathlib.Core.Path.{sym, ap, _∙_}
+use Prim.Native.Nat.{ℕ}
 use borrow.Author.Needs.{needs}
+use borrow.Author.Tests.{ne-eqb}
+use Rattle.checks.specs.Checks.{firstNo}
+use Rattle.checks.proofs.Laws.{first-stays}
+use Rattle.client_reply_check.specs.ReplyChecks.{itemChecks}
 use Rattle.client_reply_check.proofs.item_also.Statement.{statement}
 use Rattle.client_reply_check.proofs.item_also.Tie as tie
-
-enum-known-so-far : tie.Need-enum-known-so-far
-enum-known-so-far c = search needs
-
-enum-told : tie.Need-enum-told
-enum-told c = search needs
 
 item-check-requires : tie.Need-item-check-requires
 item-check-requires c κs = search needs
 
 returns : tie.Need-returns
-returns c = let a = c .before .before .before .args in rw (c .before .so-far .given .1) (sym (first-stays _ (itemChecks (a .r) (a .k) (a .i)) (why-not-0 (c .before .so-far .given .0 .0))))
+returns c = let a = c .before .args in sym (first-stays _ (itemChecks (a .r) (a .k) (a .i)) (ne-eqb _ 0 (c .if1 .taken)))
 
 returns-2 : tie.Need-returns-2
-returns-2 c = rw (c .before .enum-told .given .1) (c .item-check .ensures)
+returns-2 c =
+    let a = c .before .before .args in
+    c .item-check .ensures ∙ ap (λ (n : ℕ). firstNo n (itemChecks (a .r) (a .k) (a .i))) (sym (c .before .if1 .left))
 
 pub item-also-spec : {M : Type 1} → statement M
-item-also-spec =
-    tie.close (tie.spec enum-known-so-far enum-told item-check-requires returns returns-2)
+item-also-spec = tie.close (tie.spec item-check-requires returns returns-2)

@@ -2,8 +2,7 @@ use Rattle.client_reply_check.specs.ReplyChecks.{itemChecks, itemsChecks
 use mathlib.Core.Path.{_≡_, refl, ap, _∙_}
 use native.Mathlib.Omega.{arith}
 use Prim.Native.Nat.{_-_, _≤_}
-use Rattle.replica.specs.Outcome.{checkNo}
-use Rattle.replica.specs.Replica.{firstNo}
+use Rattle.checks.specs.Checks.{firstNo}
 use Rattle.client_reply_check.proofs.Laws.{items-more}
 use Rattle.message.specs.declared.Item.{Item}
 use borrow.Author.Needs.{needs}
@@ -11,7 +10,7 @@ use Rattle.client_reply_check.proofs.items_check.Statement.{statement}
 use Rattle.client_reply_check.proofs.items_check.Tie as tie
 
 abbrev Inv-loop : tie.InvT-loop
-Inv-loop r m n q₀ k₀ q k = (checkNo q ≡ firstNo 0 (itemsChecks r m k)) × (k ≤ n)
+Inv-loop r m n q₀ k₀ q k = (q ≡ firstNo 0 (itemsChecks r m k)) × (k ≤ n)
 
 abbrev μ-loop : tie.MeasureT-loop
 μ-loop r m n q₀ k₀ q k = n - k
@@ -36,7 +35,7 @@ loop-again : tie.Need-loop-again Inv-loop μ-loop
 loop-again c =
     let a = c .before .before .before .before .before .args in
     let l = c .before .before .before .loop in
-    let e = ap (λ (i : Item). firstNo (checkNo (l .q)) (itemChecks (a .r) (l .k) i)) (c .before .item-of .ensures) in
+    let e = ap (λ (i : Item). firstNo (l .q) (itemChecks (a .r) (l .k) i)) (c .before .item-of .ensures) in
     (c .item-also .ensures ∙ e ∙ rw (l .inv .0) (items-more (a .r) (a .m .now) (l .k)), search needs)
 
 returns : tie.Need-returns Inv-loop μ-loop

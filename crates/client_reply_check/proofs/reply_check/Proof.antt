@@ -1,27 +1,26 @@
-use Rattle.client_reply_check.specs.ReplyChecks.{formChecks}
-use mathlib.Core.Path.{_≡_, refl, sym, ap, _∙_}
-use Rattle.client_reply_check.proofs.Laws.{Formed, form-yes, form-stops, rest-decides}
+use mathlib.Core.Path.{_≡_, refl, sym, _∙_}
 use native.Mathlib.Omega.{arith}
-use Rattle.replica.specs.Outcome.{checkNo}
-use Rattle.replica.specs.Replica.{firstNo}
 use borrow.Author.Needs.{needs}
+use borrow.Author.Tests.{ne-eqb}
+use Rattle.checks.specs.Checks.{firstNo}
+use Rattle.client_reply_check.specs.ReplyChecks.{formChecks}
+use Rattle.client_reply_check.proofs.Laws.{Formed, form-yes, form-stops, rest-decides}
 use Rattle.client_reply_check.proofs.reply_check.Statement.{statement}
 use Rattle.client_reply_check.proofs.reply_check.Tie as tie
 
-formed : (c : tie.After-enum-told) → let a = c .before .before .before .before .args in firstNo 0 (formChecks (a .r) (a .m .now) (a .room)) ≡ 0
-formed c = sym (c .before .before .form-check .ensures) ∙ ap checkNo (c .enum-told .given .1)
+formed : (c : tie.Else1) → let a = c .before .before .before .args in firstNo 0 (formChecks (a .r) (a .m .now) (a .room)) ≡ 0
+formed c = sym (c .before .form-check .ensures) ∙ c .if1 .left
 
-yes : (c : tie.After-enum-told) → let a = c .before .before .before .before .args in Formed (a .r) (a .m .now) (a .room)
-yes c = let a = c .before .before .before .before .args in form-yes (a .r) (a .m .now) (a .room) (formed c)
+yes : (c : tie.Else1) → let a = c .before .before .before .args in Formed (a .r) (a .m .now) (a .room)
+yes c = let a = c .before .before .before .args in form-yes (a .r) (a .m .now) (a .room) (formed c)
 
 form-check-requires : tie.Need-form-check-requires
 form-check-requires c κs = search needs
 
-enum-known-why : tie.Need-enum-known-why
-enum-known-why c = search needs
-
-enum-told : tie.Need-enum-told
-enum-told c = search needs
+returns : tie.Need-returns
+returns c =
+    let e = c .before .form-check .ensures in
+    e ∙ form-stops _ _ _ (rw (sym e) (ne-eqb _ 0 (c .if1 .taken)))
 
 shared-slice-read-n : tie.Need-shared-slice-read-n
 shared-slice-read-n c = let y = yes (c .before) in omega (arith, y .long)
@@ -38,25 +37,21 @@ last-ok-requires c κs = let y = yes (c .before .before) in (refl, omega (arith,
 also-requires : tie.Need-also-requires
 also-requires c κs = search needs
 
-returns : tie.Need-returns
-returns c = form-stops _ _ _ (c .before .why .given .0 .0) (sym (ap checkNo (c .before .why .given .1)) ∙ c .before .before .before .form-check .ensures)
-
 returns-2 : tie.Need-returns-2
 returns-2 c =
-    let a = c .before .before .before .before .before .before .before .before .args in
-    c .also .ensures ∙ rest-decides (a .r) (a .m .now) (a .room) (formed (c .before .before .before .before)) _ _ (c .before .before .items-check .ensures) (c .before .last-ok .ensures)
+    let k = c .before .before .before .before in
+    let a = k .before .before .before .args in
+    c .also .ensures ∙ rest-decides (a .r) (a .m .now) (a .room) (formed k) _ _ (c .before .before .items-check .ensures) (c .before .last-ok .ensures)
 
 pub reply-check-spec : {M : Type 1} → statement M
 reply-check-spec =
     tie.close
     (tie.spec
     form-check-requires
-    enum-known-why
-    enum-told
+    returns
     shared-slice-read-n
     cast-n
     items-check-requires
     last-ok-requires
     also-requires
-    returns
     returns-2)

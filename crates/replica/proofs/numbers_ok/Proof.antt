@@ -1,5 +1,4 @@
 use Rattle.replica.specs.Replica.{numbersOk}
-use mathlib.Core.Path.{refl}
 use borrow.Author.Needs.{needs}
 use Rattle.replica.proofs.numbers_ok.Statement.{statement}
 use Rattle.replica.proofs.numbers_ok.Tie as tie
@@ -13,9 +12,12 @@ cast-last-2 c = search needs
 add-last : tie.Need-add-last
 add-last c = search needs
 
+is-halt-requires : tie.Need-is-halt-requires
+is-halt-requires c κs = search needs
+
 returns : tie.Need-returns
 unfolding numbersOk
-returns c = refl
+returns c = rw (c .is-halt .ensures)
 
 pub numbers-ok-spec : {M : Type 1} → statement M
-numbers-ok-spec = tie.close (tie.spec cast-last cast-last-2 add-last returns)
+numbers-ok-spec = tie.close (tie.spec cast-last cast-last-2 add-last is-halt-requires returns)

@@ -1,28 +1,34 @@
-use Rattle.replica.proofs.Laws.{refusal-stops, halt-stops}
-use mathlib.Core.Path.{sym}
+use mathlib.Core.Path.{sym, _∙_}
 use borrow.Author.Needs.{needs}
+use Rattle.replica.proofs.Laws.{halt-bounds, refusal-bounds}
 use Rattle.replica.proofs.stopped.Statement.{statement}
 use Rattle.replica.proofs.stopped.Tie as tie
 
-enum-known-why : tie.Need-enum-known-why
-enum-known-why c = search needs
+is-halt-requires : tie.Need-is-halt-requires
+is-halt-requires c κs = search needs
+
+halted-requires : tie.Need-halted-requires
+halted-requires c κs = halt-bounds _ (sym (c .before .is-halt .ensures) ∙ c .if1 .taken)
+
+refusal-of-requires : tie.Need-refusal-of-requires
+refusal-of-requires c κs = refusal-bounds _ (c .before .before .pre) (sym (c .before .is-halt .ensures) ∙ c .if1 .left)
 
 refused-requires : tie.Need-refused-requires
 refused-requires c κs = search needs
 
-enum-known-why-2 : tie.Need-enum-known-why-2
-enum-known-why-2 c = search needs
-
-halted-requires : tie.Need-halted-requires
-halted-requires c κs = search needs
-
 returns : tie.Need-returns
-returns c = rw (c .refused .ensures, c .before .before .why .given .1) (sym (refusal-stops _ (c .before .before .why .given .0 .0)))
+returns c = rw (c .halted .ensures, sym (c .before .before .is-halt .ensures) ∙ c .before .if1 .taken)
 
 returns-2 : tie.Need-returns-2
-returns-2 c = rw (c .halted .ensures, c .before .before .why2 .given .1) (sym (halt-stops _ (c .before .before .why2 .given .0 .0)))
+returns-2 c = rw (c .refused .ensures, c .before .refusal-of .ensures, sym (c .before .before .before .is-halt .ensures) ∙ c .before .before .if1 .left)
 
 pub stopped-spec : {M : Type 1} → statement M
 stopped-spec =
     tie.close
-    (tie.spec enum-known-why refused-requires enum-known-why-2 halted-requires returns returns-2)
+    (tie.spec
+    is-halt-requires
+    halted-requires
+    refusal-of-requires
+    refused-requires
+    returns
+    returns-2)

@@ -1,5 +1,5 @@
 use native.Mathlib.Nat.{add-sub-cancel-left}
-use Rattle.replica.specs.Replica.{keyOf}
+use Rattle.verify.specs.Verify.{keyOf}
 use mathlib.Core.Path.{_∙_}
 use borrow.Author.Needs.{needs}
 use Rattle.verify.proofs.key_tag.Statement.{statement}

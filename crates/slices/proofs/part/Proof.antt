@@ -1,12 +1,12 @@
-use Rattle.message.proofs.Laws.{part-all}
+use Rattle.slices.proofs.Laws.{part-all}
 use lib.ListN.{length-take, length-drop}
 use Prim.Native.Nat.{_+_, _-_}
 use mathlib.Core.Path.{_≡_, refl}
 use native.Mathlib.Omega.{arith}
 use lib.ListN.{take, drop, replicate}
 use borrow.Author.Needs.{needs}
-use Rattle.message.proofs.part.Statement.{statement}
-use Rattle.message.proofs.part.Tie as tie
+use Rattle.slices.proofs.part.Statement.{statement}
+use Rattle.slices.proofs.part.Tie as tie
 
 add-e : tie.Need-add-e
 add-e c = search needs

@@ -1,7 +1,7 @@
 use Rattle.client_reply.specs.Reply.{commitMessage}
 use borrow.Author.Needs.{needs}
-use Rattle.client_reply.proofs.write_commit.Statement.{statement}
-use Rattle.client_reply.proofs.write_commit.Tie as tie
+use Rattle.client_reply.proofs.write_message.Statement.{statement}
+use Rattle.client_reply.proofs.write_message.Tie as tie
 
 add-seq : tie.Need-add-seq
 add-seq c = search needs
@@ -25,8 +25,8 @@ returns : tie.Need-returns
 unfolding commitMessage
 returns c = rw (c .before .before .write-commit .ensures, c .before .before .before .before .commit-tag .ensures, c .before .before .before .before .before .value-at .ensures, c .before .before .before .before .before .before .status-of .ensures)
 
-pub write-commit-spec : {M : Type 1} → statement M
-write-commit-spec =
+pub write-message-spec : {M : Type 1} → statement M
+write-message-spec =
     tie.close
     (tie.spec
     add-seq
