@@ -135,8 +135,9 @@ pub fn broadcast(r: Replica, m: &[u8]) -> Stepped
         return replica::stopped(r, no);
     }
     let k = message::read_commit(m);
+    let after = confirmed_replica(r, k);
     Stepped {
-        replica: confirmed_replica(r, k),
+        replica: after,
         outcome: Outcome::Success(Done::Confirmed {
             seq: k.seq,
             status: k.status,

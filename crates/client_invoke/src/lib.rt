@@ -90,8 +90,9 @@ pub fn invoke(r: Replica, kind: u8, cell: u8, amount: u8, out: &mut [u8]) -> Ste
         last: 0,
     };
     write_message(r, e, out);
+    let after = invoked_replica(r, e);
     Stepped {
-        replica: invoked_replica(r, e),
+        replica: after,
         outcome: Outcome::Success(Done::Invoked(e.count)),
     }
 }

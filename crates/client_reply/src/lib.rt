@@ -250,8 +250,9 @@ pub fn reply(r: Replica, m: &[u8], out: &mut [u8]) -> Stepped
     let v = decide(r, m, n as usize);
     let chain = chain_to(r.confirmed, r.held, m, old, n as usize);
     write_message(r, chain, n, v.aborted, out);
+    let after = replied_replica(r, chain, n, v.aborted);
     Stepped {
-        replica: replied_replica(r, chain, n, v.aborted),
+        replica: after,
         outcome: Outcome::Success(says(v, r.confirmed + n as u32)),
     }
 }
