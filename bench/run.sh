@@ -2,7 +2,8 @@
 # Builds the proved digest and tag as a static library and times them beside plain C and OpenSSL. See README.md.
 set -eu
 cd "$(dirname "$0")/.."
-[ -f /usr/include/openssl/sha.h ] || apt-get install -y libssl-dev
+for tool in rt gcc; do command -v "$tool" > /dev/null || { echo "missing: $tool"; exit 2; }; done
+[ -f /usr/include/openssl/sha.h ] || { echo "missing: OpenSSL's headers (Debian: libssl-dev)"; exit 2; }
 rt staticlib bench_digest | tail -n 1
 mkdir -p target/bench
 gcc -O2 -Wall -c bench/plain.c -o target/bench/plain.o

@@ -82,8 +82,9 @@ pub fn invoke(r: Replica, kind: u8, cell: u8, amount: u8, out: &mut [u8]) -> Ste
     if no != 0 {
         return replica::stopped(r, no);
     }
+    let count = r.count + 1;
     let e = Operation {
-        count: r.count + 1,
+        count,
         kind,
         cell,
         amount,

@@ -37,8 +37,8 @@ returns c =
     let l = invoke-stops (a .r) (a .kind) (a .cell) (a .amount) (a .out .now) (stopped (c .before)) in
     (c .stopped .ensures ∙ rw (c .before .before .invoke-check .ensures) (l .0), l .1)
 
-add-t10 : tie.Need-add-t10
-add-t10 c = record { fits = omega (arith, yes (c .before) .below) }
+add-count : tie.Need-add-count
+add-count c = record { fits = omega (arith, yes (c .before) .below) }
 
 write-message-requires : tie.Need-write-message-requires
 write-message-requires c κs =
@@ -68,7 +68,7 @@ invoke-spec =
     invoke-check-requires
     stopped-requires
     returns
-    add-t10
+    add-count
     write-message-requires
     invoked-replica-requires
     same-length
