@@ -1,4 +1,4 @@
--- The place of a byte, and decimal numbers.
+-- The place of a byte, the pieces between separators, and decimal numbers.
 use Prim.Native.Nat.{ℕ, zero, suc, _+_, _-_, _*_, _/_, _%_, min}
 use mathlib.Core.List.{List, [], _∷_, _++_}
 use mathlib.Core.Bool.{Bool, true, false, cond, _&&_}
@@ -9,6 +9,16 @@ use Rattle.slices.specs.Bytes.{all}
 unfoldable pub placeOf : ℕ → List ℕ → ℕ
 placeOf x [] = 0
 placeOf x (y ∷ ys) = cond (eqb y x) 0 (suc (placeOf x ys))
+
+-- c put before the first piece
+unfoldable pub onFirst : ℕ → List (List ℕ) → List (List ℕ)
+onFirst c [] = (c ∷ []) ∷ []
+onFirst c (w ∷ ws) = (c ∷ w) ∷ ws
+
+-- the pieces between the x's: one more than there are x's
+unfoldable pub cut : ℕ → List ℕ → List (List ℕ)
+cut x [] = [] ∷ []
+cut x (c ∷ cs) = cond (eqb c x) ([] ∷ cut x cs) (onFirst c (cut x cs))
 
 abbrev pub isDigit : ℕ → Bool
 isDigit c = leb 48 c && leb c 57

@@ -1,4 +1,4 @@
--- Laws of the definitions of specs/Line.antt: words cut at the spaces, what they ask, and texts put one after the other. Assumes nothing.
+-- Laws of the definitions of specs/Line.antt: what words ask, and texts put one after the other. Assumes nothing.
 use Prim.Native.Nat.{ℕ, suc, _+_, _-_, _<_, _≤_, _^_}
 use mathlib.Core.Path.{_≡_, refl, sym, ap, _∙_}
 use mathlib.Core.List.{List, [], _∷_, _++_, append-assoc}
@@ -10,75 +10,11 @@ use lib.Dec.{eqb, leb}
 use borrow.Author.Tests.{leb-true}
 use Rattle.slices.specs.Bytes.{same, put}
 use Rattle.slices.proofs.Laws.{and-yes}
-use Rattle.text.specs.Text.{placeOf, decimalOf}
+use Rattle.text.specs.Text.{onFirst, cut, decimalOf}
+use Rattle.text.proofs.Cuts.{Cut}
 use Rattle.text.proofs.Laws.{either, decimal-most, put-put}
 use Rattle.trial_text.specs.declared.Said.{Said}
-use Rattle.trial_text.specs.Line.{invoke, deliver, other, onFirst, words, value, fromWords, parse, word, wordBytes}
-
--- ---- words
-words-none : (s : List ℕ) → placeOf 32 s ≡ length s → words s ≡ s ∷ []
-unfolding words placeOf onFirst
-words-none [] h = refl
-words-none (c ∷ s) h =
-    either (eqb c 32) (λ e. let z : 0 ≡ suc (length s) = rw e at h in absurd (omega (arith, z)))
-    (λ e. let g : placeOf 32 s ≡ length s = let z : suc (placeOf 32 s) ≡ suc (length s) = rw e at h in omega (arith, z) in rw (e, words-none s g))
-
-words-some : (s : List ℕ) → placeOf 32 s < length s → words s ≡ take (placeOf 32 s) s ∷ words (drop (suc (placeOf 32 s)) s)
-unfolding words placeOf onFirst
-words-some [] h = absurd (omega (arith, h))
-words-some (c ∷ s) h =
-    either (eqb c 32) (λ e. rw e)
-    (λ e. let g : placeOf 32 s < length s = let z : suc (placeOf 32 s) < suc (length s) = rw e at h in omega (arith, z) in rw (e, words-some s g))
-
-place-most : (s : List ℕ) → placeOf 32 s ≤ length s
-unfolding placeOf
-place-most [] = omega arith
-place-most (c ∷ s) = either (eqb c 32) (λ e. rw e (omega arith)) (λ e. rw e (omega (arith, place-most s)))
-
--- the first space at or after i is at e, the length where there is none
-module _ (s : List ℕ) (i e : ℕ) (h : i ≤ length s) (q : e ≡ i + placeOf 32 (drop i s)) where
-  pub end-high : e ≤ length s
-  end-high = omega (arith, place-most (drop i s), length-drop i s)
-
-  width : e - i ≡ placeOf 32 (drop i s)
-  width = omega arith
-
-  pub words-last : e ≡ length s → words (drop i s) ≡ take (e - i) (drop i s) ∷ []
-  words-last g =
-      let l : placeOf 32 (drop i s) ≡ length (drop i s) = omega (arith, length-drop i s) in
-      let m : length (drop i s) ≤ e - i = omega (arith, length-drop i s) in
-      words-none (drop i s) l ∙ rw (take-all (e - i) (drop i s) m)
-
-  pub words-more : (e ≡ length s → ⊥) → words (drop i s) ≡ take (e - i) (drop i s) ∷ words (drop (e + 1) s)
-  words-more g =
-      let l : placeOf 32 (drop i s) < length (drop i s) = omega (arith, length-drop i s, end-high) in
-      let k : i + suc (placeOf 32 (drop i s)) ≡ e + 1 = omega arith in
-      let d : drop (suc (placeOf 32 (drop i s))) (drop i s) ≡ drop (e + 1) s =
-      drop-drop (suc (placeOf 32 (drop i s))) i s ∙ ap (λ (n : ℕ). drop n s) k in
-      words-some (drop i s) l ∙ rw (width, d)
-
--- the words before i are ws
-pub record Cut (s : List ℕ) (ws : List (List ℕ)) (i : ℕ) : Type 0 where
-  pub within : i ≤ length s
-  pub cut : words s ≡ ws ++ words (drop i s)
-
-pub cut-start : (s : List ℕ) → Cut s [] 0
-cut-start s = record { within = omega arith; cut = refl }
-
-module _ {s : List ℕ} {ws : List (List ℕ)} {i : ℕ} (k : Cut s ws i) (e : ℕ) (q : e ≡ i + placeOf 32 (drop i s)) where
-  pub cut-most : e ≤ length s
-  cut-most = end-high s i e (k .within) q
-
-  pub cut-more : (e ≡ length s → ⊥) → Cut s (ws ++ (take (e - i) (drop i s) ∷ [])) (e + 1)
-  cut-more g =
-      record {
-        within = omega (arith, cut-most, g);
-        cut = k .cut ∙ rw (words-more s i e (k .within) q g) (sym (append-assoc ws (take (e - i) (drop i s) ∷ []) (words (drop (e + 1) s))));
-      }
-
-  pub cut-last : e ≡ length s → fromWords (ws ++ (take (e - i) (drop i s) ∷ [])) ≡ parse s
-  unfolding parse
-  cut-last g = sym (ap fromWords (k .cut ∙ ap (λ (x : List (List ℕ)). ws ++ x) (words-last s i e (k .within) q g)))
+use Rattle.trial_text.specs.Line.{invoke, deliver, other, value, fromWords, parse, word, wordBytes}
 
 -- ---- what words ask
 more-words : (w v k c a : List ℕ) (x : ℕ) (ws : List (List ℕ)) → fromWords (w ∷ v ∷ k ∷ c ∷ a ∷ onFirst x ws) ≡ other
@@ -86,14 +22,17 @@ unfolding fromWords onFirst
 more-words w v k c a x [] = refl
 more-words w v k c a x (u ∷ ws) = refl
 
-pub six-words : (w v k c a t : List ℕ) → fromWords (w ∷ v ∷ k ∷ c ∷ a ∷ words t) ≡ other
-unfolding fromWords words
+pub six-words : (w v k c a t : List ℕ) → fromWords (w ∷ v ∷ k ∷ c ∷ a ∷ cut 32 t) ≡ other
+unfolding fromWords cut
 six-words w v k c a [] = refl
-six-words w v k c a (x ∷ t) = either (eqb x 32) (λ e. rw e) (λ e. rw e (more-words w v k c a x (words t)))
+six-words w v k c a (x ∷ t) = either (eqb x 32) (λ e. rw e) (λ e. rw e (more-words w v k c a x (cut 32 t)))
 
-pub cut-six : {s w v k c a : List ℕ} {i : ℕ} → Cut s (w ∷ v ∷ k ∷ c ∷ a ∷ []) i → other ≡ parse s
+pub asks : (s : List ℕ) {ws : List (List ℕ)} → cut 32 s ≡ ws → fromWords ws ≡ parse s
 unfolding parse
-cut-six {s} {w} {v} {k} {c} {a} {i} h = sym (ap fromWords (h .cut) ∙ six-words w v k c a (drop i s))
+asks s e = sym (ap fromWords e)
+
+pub asks-six : {s w v k c a : List ℕ} {i : ℕ} → Cut 32 s (w ∷ v ∷ k ∷ c ∷ a ∷ []) i → other ≡ parse s
+asks-six {s} {w} {v} {k} {c} {a} {i} h = sym (six-words w v k c a (drop i s)) ∙ asks s (h .pieces)
 
 module _ (w v : List ℕ) (b : Bool) (n : ℕ) (p : b ≡ same w (68 ∷ [])) (q : n ≡ value v) where
   pub deliver-yes : (b && leb 1 n && leb n 8) ≡ true → deliver n ≡ fromWords (w ∷ v ∷ [])

@@ -7,8 +7,9 @@ use lib.Dec.{leb}
 use borrow.Author.Tests.{leb-true}
 use Rattle.slices.specs.Bytes.{same}
 use Rattle.slices.proofs.Laws.{and-yes}
+use Rattle.text.specs.Text.{cut}
 use Rattle.text.proofs.Laws.{either}
-use Rattle.trial_text.specs.Line.{Asked, invoke, deliver, other, words, value, fromWords, parse}
+use Rattle.trial_text.specs.Line.{Asked, invoke, deliver, other, value, fromWords, parse}
 use Rattle.trial_text.proofs.Laws.{invokeOk, invoke-most}
 
 -- "a van not 1 to 8 or a number above 255" is in no command
@@ -49,4 +50,4 @@ words-range (w ∷ v ∷ k ∷ c ∷ a ∷ x ∷ ws) = other-in
 
 pub parse-range : (line : List ℕ) → InRange (parse line)
 unfolding parse
-parse-range line = words-range (words line)
+parse-range line = words-range (cut 32 line)

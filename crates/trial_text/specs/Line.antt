@@ -1,10 +1,10 @@
 -- The trial program's lines, of input and of output (document 01, "Cases").
 use Prim.Native.Nat.{ℕ}
 use mathlib.Core.List.{List, [], _∷_, _++_}
-use mathlib.Core.Bool.{Bool, true, false, cond, _&&_}
-use lib.Dec.{leb, eqb}
+use mathlib.Core.Bool.{cond, _&&_}
+use lib.Dec.{leb}
 use Rattle.slices.specs.Bytes.{same}
-use Rattle.text.specs.Text.{numberOf, decimalOf}
+use Rattle.text.specs.Text.{cut, numberOf, decimalOf}
 use Rattle.trial_text.specs.declared.Command.{Command}
 use Rattle.trial_text.specs.declared.Command.the-variants as C
 use Rattle.trial_text.specs.declared.Said.{Said}
@@ -23,16 +23,6 @@ asked (C.Invoke v k c a) = invoke v k c a
 asked (C.Deliver v) = deliver v
 asked C.Other = other
 
--- c put before the first word
-unfoldable pub onFirst : ℕ → List (List ℕ) → List (List ℕ)
-onFirst c [] = (c ∷ []) ∷ []
-onFirst c (w ∷ ws) = (c ∷ w) ∷ ws
-
--- the words between the spaces (byte 32)
-unfoldable pub words : List ℕ → List (List ℕ)
-words [] = [] ∷ []
-words (c ∷ cs) = cond (eqb c 32) ([] ∷ words cs) (onFirst c (words cs))
-
 -- a word's number: 256 for one above 255 and for what is no number
 abbrev pub value : List ℕ → ℕ
 value w = numberOf 256 w
@@ -50,8 +40,9 @@ fromWords (w ∷ v ∷ k ∷ c ∷ a ∷ []) =
     other
 fromWords (w ∷ v ∷ k ∷ c ∷ a ∷ x ∷ ws) = other
 
+-- the words between the spaces (byte 32)
 unfoldable pub parse : List ℕ → Asked
-parse line = fromWords (words line)
+parse line = fromWords (cut 32 line)
 
 -- ---- a line of output
 -- "word, data (placed place; answer place answer; aside place; confirm place status; empty; no or halt number)", "bad", "full"

@@ -1,7 +1,8 @@
 use mathlib.Core.Path.{_∙_}
 use native.Mathlib.Omega.{arith}
 use Rattle.trial_text.specs.Line.{fromWords}
-use Rattle.trial_text.proofs.Laws.{cut-start, cut-more, cut-last, cut-six}
+use Rattle.text.proofs.Cuts.{cut-start, cut-more, cut-last}
+use Rattle.trial_text.proofs.Laws.{asks, asks-six}
 use borrow.Author.Needs.{needs}
 use Rattle.trial_text.proofs.parse.Statement.{statement}
 use Rattle.trial_text.proofs.parse.Tie as tie
@@ -13,13 +14,13 @@ returns : tie.Need-returns
 unfolding fromWords
 returns c =
     let line = c .before .before .before .args .line .now in
-    let k0 = cut-start line in
-    cut-last k0 (c .before .find .result) (c .before .find .ensures) (c .if1 .taken)
+    let k0 = cut-start 32 line in
+    asks line (cut-last k0 (c .before .find .result) (c .before .find .ensures) (c .if1 .taken))
 
 add-find : tie.Need-add-find
 add-find c =
     let line = c .before .before .before .args .line .now in
-    let k0 = cut-start line in
+    let k0 = cut-start 32 line in
     let k1 = cut-more k0 (c .before .find .result) (c .before .find .ensures) (c .if1 .left) in
     record { fits = omega (arith, k1 .within, c .before .before .before .good .0 .0) }
 
@@ -53,14 +54,14 @@ deliver-of-requires c κs = search needs
 returns-2 : tie.Need-returns-2
 returns-2 c =
     let line = c .before .before .before .before .before .before .before .before .args .line .now in
-    let k0 = cut-start line in
+    let k0 = cut-start 32 line in
     let k1 = cut-more k0 (c .before .before .before .before .before .before .find .result) (c .before .before .before .before .before .before .find .ensures) (c .before .before .before .before .before .if1 .left) in
-    c .deliver-of .ensures ∙ cut-last k1 (c .before .before .before .before .find2 .result) (c .before .before .before .before .find2 .ensures) (c .before .before .before .if2 .taken)
+    c .deliver-of .ensures ∙ asks line (cut-last k1 (c .before .before .before .before .find2 .result) (c .before .before .before .before .find2 .ensures) (c .before .before .before .if2 .taken))
 
 add-find-2 : tie.Need-add-find-2
 add-find-2 c =
     let line = c .before .before .before .before .before .args .line .now in
-    let k0 = cut-start line in
+    let k0 = cut-start 32 line in
     let k1 = cut-more k0 (c .before .before .before .find .result) (c .before .before .before .find .ensures) (c .before .before .if1 .left) in
     let k2 = cut-more k1 (c .before .find2 .result) (c .before .find2 .ensures) (c .if2 .left) in
     record { fits = omega (arith, k2 .within, c .before .before .before .before .before .good .0 .0) }
@@ -72,15 +73,15 @@ returns-3 : tie.Need-returns-3
 unfolding fromWords
 returns-3 c =
     let line = c .before .before .before .before .before .before .before .args .line .now in
-    let k0 = cut-start line in
+    let k0 = cut-start 32 line in
     let k1 = cut-more k0 (c .before .before .before .before .before .find .result) (c .before .before .before .before .before .find .ensures) (c .before .before .before .before .if1 .left) in
     let k2 = cut-more k1 (c .before .before .before .find2 .result) (c .before .before .before .find2 .ensures) (c .before .before .if2 .left) in
-    cut-last k2 (c .before .find3 .result) (c .before .find3 .ensures) (c .if3 .taken)
+    asks line (cut-last k2 (c .before .find3 .result) (c .before .find3 .ensures) (c .if3 .taken))
 
 add-find-3 : tie.Need-add-find-3
 add-find-3 c =
     let line = c .before .before .before .before .before .before .before .args .line .now in
-    let k0 = cut-start line in
+    let k0 = cut-start 32 line in
     let k1 = cut-more k0 (c .before .before .before .before .before .find .result) (c .before .before .before .before .before .find .ensures) (c .before .before .before .before .if1 .left) in
     let k2 = cut-more k1 (c .before .before .before .find2 .result) (c .before .before .before .find2 .ensures) (c .before .before .if2 .left) in
     let k3 = cut-more k2 (c .before .find3 .result) (c .before .find3 .ensures) (c .if3 .left) in
@@ -93,16 +94,16 @@ returns-4 : tie.Need-returns-4
 unfolding fromWords
 returns-4 c =
     let line = c .before .before .before .before .before .before .before .before .before .args .line .now in
-    let k0 = cut-start line in
+    let k0 = cut-start 32 line in
     let k1 = cut-more k0 (c .before .before .before .before .before .before .before .find .result) (c .before .before .before .before .before .before .before .find .ensures) (c .before .before .before .before .before .before .if1 .left) in
     let k2 = cut-more k1 (c .before .before .before .before .before .find2 .result) (c .before .before .before .before .before .find2 .ensures) (c .before .before .before .before .if2 .left) in
     let k3 = cut-more k2 (c .before .before .before .find3 .result) (c .before .before .before .find3 .ensures) (c .before .before .if3 .left) in
-    cut-last k3 (c .before .find4 .result) (c .before .find4 .ensures) (c .if4 .taken)
+    asks line (cut-last k3 (c .before .find4 .result) (c .before .find4 .ensures) (c .if4 .taken))
 
 add-find-4 : tie.Need-add-find-4
 add-find-4 c =
     let line = c .before .before .before .before .before .before .before .before .before .args .line .now in
-    let k0 = cut-start line in
+    let k0 = cut-start 32 line in
     let k1 = cut-more k0 (c .before .before .before .before .before .before .before .find .result) (c .before .before .before .before .before .before .before .find .ensures) (c .before .before .before .before .before .before .if1 .left) in
     let k2 = cut-more k1 (c .before .before .before .before .before .find2 .result) (c .before .before .before .before .before .find2 .ensures) (c .before .before .before .before .if2 .left) in
     let k3 = cut-more k2 (c .before .before .before .find3 .result) (c .before .before .before .find3 .ensures) (c .before .before .if3 .left) in
@@ -115,13 +116,13 @@ find-requires-5 c κs = search needs
 returns-5 : tie.Need-returns-5
 returns-5 c =
     let line = c .before .before .before .before .before .before .before .before .before .before .before .args .line .now in
-    let k0 = cut-start line in
+    let k0 = cut-start 32 line in
     let k1 = cut-more k0 (c .before .before .before .before .before .before .before .before .before .find .result) (c .before .before .before .before .before .before .before .before .before .find .ensures) (c .before .before .before .before .before .before .before .before .if1 .left) in
     let k2 = cut-more k1 (c .before .before .before .before .before .before .before .find2 .result) (c .before .before .before .before .before .before .before .find2 .ensures) (c .before .before .before .before .before .before .if2 .left) in
     let k3 = cut-more k2 (c .before .before .before .before .before .find3 .result) (c .before .before .before .before .before .find3 .ensures) (c .before .before .before .before .if3 .left) in
     let k4 = cut-more k3 (c .before .before .before .find4 .result) (c .before .before .before .find4 .ensures) (c .before .before .if4 .left) in
     let k5 = cut-more k4 (c .before .find5 .result) (c .before .find5 .ensures) (c .if5 .taken) in
-    cut-six k5
+    asks-six k5
 
 sub-invoke-of : tie.Need-sub-invoke-of
 sub-invoke-of c = search needs
@@ -186,12 +187,12 @@ invoke-of-requires c κs = search needs
 returns-6 : tie.Need-returns-6
 returns-6 c =
     let line = c .before .before .before .before .before .before .before .before .before .before .before .before .before .before .before .before .before .args .line .now in
-    let k0 = cut-start line in
+    let k0 = cut-start 32 line in
     let k1 = cut-more k0 (c .before .before .before .before .before .before .before .before .before .before .before .before .before .before .before .find .result) (c .before .before .before .before .before .before .before .before .before .before .before .before .before .before .before .find .ensures) (c .before .before .before .before .before .before .before .before .before .before .before .before .before .before .if1 .left) in
     let k2 = cut-more k1 (c .before .before .before .before .before .before .before .before .before .before .before .before .before .find2 .result) (c .before .before .before .before .before .before .before .before .before .before .before .before .before .find2 .ensures) (c .before .before .before .before .before .before .before .before .before .before .before .before .if2 .left) in
     let k3 = cut-more k2 (c .before .before .before .before .before .before .before .before .before .before .before .find3 .result) (c .before .before .before .before .before .before .before .before .before .before .before .find3 .ensures) (c .before .before .before .before .before .before .before .before .before .before .if3 .left) in
     let k4 = cut-more k3 (c .before .before .before .before .before .before .before .before .before .find4 .result) (c .before .before .before .before .before .before .before .before .before .find4 .ensures) (c .before .before .before .before .before .before .before .before .if4 .left) in
-    c .invoke-of .ensures ∙ cut-last k4 (c .before .before .before .before .before .before .before .find5 .result) (c .before .before .before .before .before .before .before .find5 .ensures) (c .before .before .before .before .before .before .if5 .left)
+    c .invoke-of .ensures ∙ asks line (cut-last k4 (c .before .before .before .before .before .before .before .find5 .result) (c .before .before .before .before .before .before .before .find5 .ensures) (c .before .before .before .before .before .before .if5 .left))
 
 pub parse-spec : {M : Type 1} → statement M
 parse-spec =
