@@ -48,12 +48,15 @@ module _ {x : ℕ} {s : List ℕ} {ws : List (List ℕ)} {i : ℕ} (k : Cut x s 
   pub cut-most : e ≤ length s
   cut-most = omega (arith, k .within, place-most x (drop i s), length-drop i s)
 
+  -- what is left is one piece
+  pub cut-rest : e ≡ length s → cut x (drop i s) ≡ drop i s ∷ []
+  cut-rest g = let w = k .within in cut-none x (drop i s) (omega (arith, length-drop i s))
+
   pub cut-last : e ≡ length s → cut x s ≡ ws ++ (take (e - i) (drop i s) ∷ [])
   cut-last g =
       let w = k .within in
-      let l : placeOf x (drop i s) ≡ length (drop i s) = omega (arith, length-drop i s) in
       let m : length (drop i s) ≤ e - i = omega (arith, length-drop i s) in
-      k .pieces ∙ rw (cut-none x (drop i s) l, take-all (e - i) (drop i s) m)
+      k .pieces ∙ rw (cut-rest g, take-all (e - i) (drop i s) m)
 
   pub cut-more : (e ≡ length s → ⊥) → Cut x s (ws ++ (take (e - i) (drop i s) ∷ [])) (e + 1)
   cut-more g =
