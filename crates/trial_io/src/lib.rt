@@ -1,5 +1,5 @@
-// The trial program of document 01: lines from standard input to its end, and a line for each on standard output.
-// What a line asks and what is printed are trial_text's `parse` and `put_line`, what it gives trial_core's `step`.
+// The trial program of document 01: lines from standard input to its end, and a line for each on standard output. What is printed for
+// which line is the contract of `trial_lines::answers`; here is only what reads, prints, and keeps what is not yet a line.
 use libc::STDIN_FILENO;
 use libc::STDOUT_FILENO;
 use trial_core::Trial;
@@ -8,105 +8,24 @@ ghost use mathlib.Core.Path.{_≡_};
 ghost use Prim.Native.Nat.{_+_, _-_, _≤_, _<_, _^_};
 ghost use lib.ListN.{length, take, drop};
 
-// What is carried from line to line: the trial, how many lines there were, and whether the rest of an over-long line is
-// being passed over.
+// What is carried from line to line: the trial, how many lines there were, and whether the rest of an over-long line is being passed over.
 struct State {
     trial: Trial,
     number: u64,
     skipping: bool,
 }
 
-// After some lines: how many bytes of the input they have, and how many bytes were written.
-struct Answered {
+// After some lines: how many bytes of the input they have.
+struct Used {
     state: State,
     used: usize,
-    filled: usize,
 }
 
-// After a read: how many bytes of a line not yet whole are held, and how many were read.
+// After a read: how many bytes are held that are not yet a line, and how many were read.
 struct Turned {
     state: State,
     held: usize,
     got: usize,
-}
-
-// What a line asks. An over-long one is of another form.
-fn asked(skipping: bool, line: &[u8]) -> Command {
-    if skipping {
-        return Command::Other;
-    }
-    trial_text::parse(line)
-}
-
-// One line: its answer is written into `out` from `at` on.
-fn answer(
-    state: State,
-    line: &[u8],
-    out: &mut [u8],
-    at: usize,
-    log: &mut [u8; 40960],
-    replies: &mut [u8; 10520],
-    invokes: &mut [u8; 344],
-) -> Answered
-    requires { ⌜ state .number + 1 < 2 ^ 64 ⌝ }
-    requires { ⌜ at + 64 ≤ length (now out) ⌝ }
-    ensures { λ r. ⌜ (r .state .number ≡ state .number + 1) × (r .filled ≤ at + 64) ⌝ }
-{
-    let command = asked(state.skipping, line);
-    let t = state.trial;
-    let r = trial_core::step(t, command, log, replies, invokes);
-    let trial = r.trial;
-    let said = r.said;
-    let number = state.number + 1;
-    let filled = trial_text::put_line(out, at, number, r.van, said);
-    Answered {
-        state: State {
-            trial,
-            number,
-            skipping: false,
-        },
-        used: line.len(),
-        filled,
-    }
-}
-
-// The whole lines of `text`, in order, until there is none left or `out` is nearly full.
-fn batch(
-    start: State,
-    text: &[u8],
-    out: &mut [u8],
-    log: &mut [u8; 40960],
-    replies: &mut [u8; 10520],
-    invokes: &mut [u8; 344],
-) -> Answered
-    requires { ⌜ start .number + length (now text) < 2 ^ 64 ⌝ }
-    requires { ⌜ 64 ≤ length (now out) ⌝ }
-    ensures { λ r. ⌜ (r .used ≤ length (now (text .entry))) × (r .filled ≤ length (now (out .entry))) × (r .state .number ≤ start .number + r .used) ⌝ }
-{
-    let limit = out.len() - 64;
-    let mut state = start;
-    let mut at = 0;
-    let mut filled = 0;
-    while filled <= limit {
-        let end = text::find(text, at, 10);
-        if text.len() <= end {
-            return Answered {
-                state,
-                used: at,
-                filled,
-            };
-        }
-        let q = answer(state, &text[at..end], out, filled, log, replies, invokes);
-        let after = q.state;
-        state = after;
-        filled = q.filled;
-        at = end + 1;
-    }
-    Answered {
-        state,
-        used: at,
-        filled,
-    }
 }
 
 // Prints the first `n` bytes.
@@ -116,41 +35,126 @@ fn print(out: &[u8], n: usize)
     io::write_all(STDOUT_FILENO, &out[0..n]);
 }
 
+// Answers one command, and prints what it gives.
+fn one(
+    state: State,
+    command: Command,
+    out: &mut [u8],
+    log: &mut [u8; 40960],
+    replies: &mut [u8; 10520],
+    invokes: &mut [u8; 344],
+) -> State
+    requires { ⌜ (state .number + 1 < 2 ^ 64) × (64 ≤ length (now out)) ⌝ }
+    ensures { λ r. ⌜ r .number ≡ state .number + 1 ⌝ }
+{
+    let t = state.trial;
+    let number = state.number + 1;
+    let q = trial_lines::answer(t, number, command, out, 0, log, replies, invokes);
+    let trial = q.trial;
+    let filled = q.filled;
+    print(out, filled);
+    State {
+        trial,
+        number,
+        skipping: false,
+    }
+}
+
+// The rest of an over-long line, passed over. At its line feed, the line is answered as one of another form.
+fn skip(
+    state: State,
+    text: &[u8],
+    out: &mut [u8],
+    log: &mut [u8; 40960],
+    replies: &mut [u8; 10520],
+    invokes: &mut [u8; 344],
+) -> Used
+    requires { ⌜ (state .number + length (now text) < 2 ^ 64) × (64 ≤ length (now out)) ⌝ }
+    ensures { λ r. ⌜ (r .used ≤ length (now (text .entry))) × (r .state .number ≤ state .number + r .used) ⌝ }
+{
+    let end = text::find(text, 0, 10);
+    if text.len() <= end {
+        return Used {
+            state,
+            used: text.len(),
+        };
+    }
+    let after = one(state, Command::Other, out, log, replies, invokes);
+    Used {
+        state: after,
+        used: end + 1,
+    }
+}
+
 // The whole lines of `text`, in order; what they give is printed.
-fn lines(
+fn whole_lines(
     start: State,
     text: &[u8],
     out: &mut [u8],
     log: &mut [u8; 40960],
     replies: &mut [u8; 10520],
     invokes: &mut [u8; 344],
-) -> Answered
+) -> Used
     requires { ⌜ start .number + length (now text) < 2 ^ 64 ⌝ }
-    requires { ⌜ 64 ≤ length (now out) ⌝ }
     ensures { λ r. ⌜ (r .used ≤ length (now (text .entry))) × (r .state .number ≤ start .number + r .used) ⌝ }
 {
-    let mut state = start;
+    let skipping = start.skipping;
+    let mut trial = start.trial;
+    let mut number = start.number;
     let mut at = 0;
     while at < text.len() {
-        let q = batch(state, &text[at..], out, log, replies, invokes);
-        let after = q.state;
+        let q = trial_lines::answers(trial, number, &text[at..], out, log, replies, invokes);
+        let after = q.trial;
         let used = q.used;
         let filled = q.filled;
         print(out, filled);
-        state = after;
+        trial = after;
+        number += q.count;
         if used == 0 {
-            return Answered {
-                state,
+            return Used {
+                state: State {
+                    trial,
+                    number,
+                    skipping,
+                },
                 used: at,
-                filled: 0,
             };
         }
         at += used;
     }
-    Answered {
-        state,
+    Used {
+        state: State {
+            trial,
+            number,
+            skipping,
+        },
         used: at,
-        filled: 0,
+    }
+}
+
+fn lines(
+    state: State,
+    text: &[u8],
+    out: &mut [u8],
+    log: &mut [u8; 40960],
+    replies: &mut [u8; 10520],
+    invokes: &mut [u8; 344],
+) -> Used
+    requires { ⌜ (state .number + length (now text) < 2 ^ 64) × (64 ≤ length (now out)) ⌝ }
+    ensures { λ r. ⌜ (r .used ≤ length (now (text .entry))) × (r .state .number ≤ state .number + r .used) ⌝ }
+{
+    if state.skipping {
+        let a = skip(state, text, out, log, replies, invokes);
+        let s = a.state;
+        let from = a.used;
+        let b = whole_lines(s, &text[from..], out, log, replies, invokes);
+        let after = b.state;
+        Used {
+            state: after,
+            used: from + b.used,
+        }
+    } else {
+        whole_lines(state, text, out, log, replies, invokes)
     }
 }
 
@@ -207,7 +211,9 @@ fn turn(
     invokes: &mut [u8; 344],
 ) -> Turned
     requires { ⌜ (held < length (now buf)) × (64 ≤ length (now out)) × (state .number + length (now buf) < 2 ^ 64) ⌝ }
-    ensures { λ r. ⌜ (r .held < length (now (buf .entry))) × (r .got ≤ length (now (buf .entry))) × (r .state .number + r .held ≤ state .number + held + r .got) ⌝ }
+    ensures { λ r. ⌜ (r .held < length (now (buf .entry)))
+        × (r .got ≤ length (now (buf .entry)))
+        × (r .state .number + r .held ≤ state .number + held + r .got) ⌝ }
 {
     let got = read(buf, held);
     let n = held + got;
@@ -216,6 +222,14 @@ fn turn(
     let used = q.used;
     shift(buf, used, n);
     held_on(after, n - used, got, buf.len())
+}
+
+// What a line without a line feed asks. An over-long one is of another form.
+fn asked(skipping: bool, line: &[u8]) -> Command {
+    if skipping {
+        return Command::Other;
+    }
+    trial_text::parse(line)
 }
 
 // The last line, where the input does not end with a line feed.
@@ -230,9 +244,8 @@ fn last(
     requires { ⌜ (state .number + 1 < 2 ^ 64) × (64 ≤ length (now out)) ⌝ }
 {
     if state.skipping | (line.len() != 0) {
-        let q = answer(state, line, out, 0, log, replies, invokes);
-        let filled = q.filled;
-        print(out, filled);
+        let command = asked(state.skipping, line);
+        one(state, command, out, log, replies, invokes);
     }
 }
 
@@ -264,7 +277,7 @@ pub fn run() {
     let mut replies = bytes_10520();
     let mut invokes = bytes_344();
     let mut state = State {
-        trial: trial_core::start(),
+        trial: trial_start::start(),
         number: 0,
         skipping: false,
     };
