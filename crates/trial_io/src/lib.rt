@@ -200,6 +200,28 @@ fn read(buf: &mut [u8], held: usize) -> usize
     io::count(got, &buf[held..])
 }
 
+// The whole lines among the first `n` bytes; what is left of them goes to the front.
+fn taken(
+    state: State,
+    n: usize,
+    got: usize,
+    buf: &mut [u8],
+    out: &mut [u8],
+    log: &mut [u8; 40960],
+    replies: &mut [u8; 10520],
+    invokes: &mut [u8; 344],
+) -> Turned
+    requires { ⌜ (n ≤ length (now buf)) × (0 < length (now buf)) × (64 ≤ length (now out)) × (state .number + n < 2 ^ 64) ⌝ }
+    ensures { λ r. ⌜ (r .held < length (now (buf .entry))) × (r .got ≡ got) × (r .state .number + r .held ≤ state .number + n) ⌝ }
+{
+    let room = buf.len();
+    let q = lines(state, &buf[0..n], out, log, replies, invokes);
+    let after = q.state;
+    let used = q.used;
+    shift(buf, used, n);
+    held_on(after, n - used, got, room)
+}
+
 // One read, and the lines that it makes whole.
 fn turn(
     state: State,
@@ -216,12 +238,7 @@ fn turn(
         × (r .state .number + r .held ≤ state .number + held + r .got) ⌝ }
 {
     let got = read(buf, held);
-    let n = held + got;
-    let q = lines(state, &buf[0..n], out, log, replies, invokes);
-    let after = q.state;
-    let used = q.used;
-    shift(buf, used, n);
-    held_on(after, n - used, got, buf.len())
+    taken(state, held + got, got, buf, out, log, replies, invokes)
 }
 
 // What a line without a line feed asks. An over-long one is of another form.
