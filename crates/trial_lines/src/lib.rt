@@ -1,13 +1,9 @@
 // Lines of input answered into a buffer. Definitions: specs/Lines.antt.
 use trial_core::Trial;
 use trial_text::Command;
-ghost use mathlib.Core.Path.{_≡_};
-ghost use mathlib.Core.List.{[], _++_};
 ghost use Prim.Native.Nat.{_+_, _≤_, _<_, _^_};
 ghost use lib.ListN.{length};
-ghost use Rattle.slices.specs.Bytes.{put};
-ghost use Rattle.trial_text.specs.Line.{asked, lineBytes};
-ghost use Rattle.trial_core.specs.Trial.{lineStep};
+ghost use Rattle.trial_text.specs.Line.{asked};
 ghost use Rattle.trial_moves.specs.Moves.{lentOf};
 ghost use Rattle.trial_lines.specs.Lines.{Answers, Said};
 
