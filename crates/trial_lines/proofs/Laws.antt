@@ -1,0 +1,135 @@
+-- Lines answered one after the other. Assumes nothing.
+use Prim.Native.Nat.{ℕ, _+_, _-_, _<_, _≤_}
+use mathlib.Core.Path.{_≡_, refl, sym, ap, _∙_}
+use mathlib.Core.List.{List, [], _∷_, _++_, append-assoc}
+use mathlib.Core.Logic.{_⊎_}
+use native.Mathlib.Omega.{arith}
+use lib.ListN.{length, take, drop, length-append, length-take}
+use lib.Seq.{drop-drop, take-at, take-append-add}
+use Rattle.slices.specs.Bytes.{put}
+use Rattle.slices.proofs.Laws.{put-length, drop-put}
+use Rattle.text.specs.Text.{placeOf}
+use Rattle.text.proofs.Cuts.{Cut, cut-start, cut-more}
+use Rattle.trial_text.specs.Line.{Asked, Word, parse, lineBytes}
+use Rattle.trial_core.specs.declared.Trial.{Trial}
+use Rattle.trial_core.specs.Trial.{Lent, LineStep, lineStep}
+use Rattle.trial_lines.specs.declared.Line.{Line}
+use Rattle.trial_lines.specs.Lines.{Run, nextRun, runLines, linesOf, Said, Answers}
+
+pub run-more : (w : Run) (ls : List (List ℕ)) (l : List ℕ) → runLines w (ls ++ (l ∷ [])) ≡ nextRun (runLines w ls) (parse l)
+unfolding runLines
+run-more w [] l = refl
+run-more w (m ∷ ls) l = run-more (nextRun w (parse m)) ls l
+
+-- one element more of a list
+pub take-more : (xs ys ls : List (List ℕ)) (y : List ℕ) (n : ℕ) → xs ≡ ls ++ (y ∷ ys) → length ls ≡ n → take (n + 1) xs ≡ ls ++ (y ∷ [])
+take-more xs ys ls y n e h = rw (e, ← h) (take-append-add ls (y ∷ ys) 1)
+
+-- bytes put at the end of those there are
+module _ (z L : List ℕ) (at : ℕ) (h : at + length L ≤ length z) where
+  pub front-more : take (at + length L) (put z at L) ≡ take at z ++ L
+  front-more =
+      let g : length (take at z ++ L) ≡ at + length L = simp (length-append, length-take) (omega arith) in
+      take-at (take at z ++ L) (drop (at + length L) z) (at + length L) g
+
+pub said-of :
+    (t : Trial) (n : ℕ) (b : Lent) (a : Asked) (out : List ℕ) (at : ℕ) (r : Line) (b′ : Lent) (out′ : List ℕ) (v : ℕ) (x : Word) →
+    _≡_ {A = LineStep} (record { trial = r .trial; lent = b′; van = v; word = x }) (lineStep t b a) →
+    r .filled ≡ at + length (lineBytes n v x) →
+    out′ ≡ put out at (lineBytes n v x) →
+    r .filled ≤ at + 64 →
+    Said t n b a out at r b′ out′
+said-of t n b a out at r b′ out′ v x e f g h =
+    let l : lineBytes n v x ≡ lineBytes n (lineStep t b a .van) (lineStep t b a .word) = ap (λ (s : LineStep). lineBytes n (s .van) (s .word)) e in
+    record {
+      trial = ap (λ (s : LineStep). s .trial) e;
+      lent = ap (λ (s : LineStep). s .lent) e;
+      place = f ∙ ap (λ (s : List ℕ). at + length s) l;
+      bytes = g ∙ ap (λ (s : List ℕ). put out at s) l;
+      most = h;
+    }
+
+-- the first `count` lines are answered
+pub record So (t₀ : Trial) (n : ℕ) (b₀ : Lent) (text out₀ : List ℕ) (t : Trial) (b : Lent) (out : List ℕ) (count at filled : ℕ) : Type 0 where
+  pub cut : Cut 10 text (take count (linesOf text)) at
+  pub counted : length (take count (linesOf text)) ≡ count
+  pub each : count ≤ at
+  pub run :
+      _≡_ {A = Run} (record { trial = t; lent = b; number = n + count; printed = take filled out })
+      (runLines (record { trial = t₀; lent = b₀; number = n; printed = [] }) (take count (linesOf text)))
+  pub room : filled ≤ length out₀
+  pub rest : drop filled out ≡ drop filled out₀
+  pub same : length out ≡ length out₀
+
+pub so-none : (t : Trial) (n : ℕ) (b : Lent) (text out : List ℕ) → So t n b text out t b out 0 0 0
+unfolding runLines
+so-none t n b text out =
+    let e : n + 0 ≡ n = omega arith in
+    record {
+      cut = cut-start 10 text;
+      counted = refl;
+      each = omega arith;
+      run = rw e;
+      room = omega arith;
+      rest = refl;
+      same = refl;
+    }
+
+module _ {t₀ : Trial} {n : ℕ} {b₀ : Lent} {text out₀ : List ℕ} {t : Trial} {b : Lent} {out : List ℕ} {count at filled : ℕ} (w : So t₀ n b₀ text out₀ t b out count at filled) where
+  pub so-more :
+      (e : ℕ) (a : Asked) (r : Line) (b′ : Lent) (out′ : List ℕ) →
+      e ≡ at + placeOf 10 (drop at text) →
+      (e ≡ length text → ⊥) →
+      filled + 64 ≤ length out₀ →
+      a ≡ parse (take (e - at) (drop at text)) →
+      Said t (n + count + 1) b a out filled r b′ out′ →
+      So t₀ n b₀ text out₀ (r .trial) b′ out′ (count + 1) (e + 1) (r .filled)
+  unfolding nextRun
+  so-more e a r b′ out′ q g h o s′ =
+      let s = rw o at s′ in
+      let ls = take count (linesOf text) in
+      let l = take (e - at) (drop at text) in
+      let S = lineStep t b (parse l) in
+      let L = lineBytes (n + count + 1) (S .van) (S .word) in
+      let R : Run = record { trial = t₀; lent = b₀; number = n; printed = [] } in
+      let k = cut-more (w .cut) e q g in
+      let ys = linesOf (drop (e + 1) text) in
+      let m : take (count + 1) (linesOf text) ≡ ls ++ (l ∷ []) =
+      take-more (linesOf text) ys ls l count (k .pieces ∙ append-assoc ls (l ∷ []) ys) (w .counted) in
+      let place : r .filled ≡ filled + length L = s .place in
+      let fits : filled + length L ≤ length out = omega (arith, s .most, w .same) in
+      let p : take (r .filled) out′ ≡ take filled out ++ L = rw (s .bytes, place) (front-more out L filled fits) in
+      let d : filled + (r .filled - filled) ≡ r .filled = omega arith in
+      let i : n + (count + 1) ≡ n + count + 1 = omega arith in
+      let v : _≡_ {A = Run} (record { trial = r .trial; lent = b′; number = n + (count + 1); printed = take (r .filled) out′ })
+      (nextRun (record { trial = t; lent = b; number = n + count; printed = take filled out }) (parse l)) = rw (s .trial, s .lent, i, p) in
+      record {
+        cut = rw m k;
+        counted = rw m (omega (arith, length-append ls (l ∷ []), w .counted));
+        each = omega (arith, w .each);
+        run = v ∙ ap (λ (x : Run). nextRun x (parse l)) (w .run) ∙ sym (run-more R ls l) ∙ ap (runLines R) (sym m);
+        room = omega (arith, s .most);
+        rest =
+            ap (drop (r .filled)) (s .bytes)
+            ∙ drop-put out L filled (r .filled) (omega arith) (omega arith)
+            ∙ ap (λ (x : ℕ). drop x out) (sym d)
+            ∙ sym (drop-drop (r .filled - filled) filled out)
+            ∙ ap (drop (r .filled - filled)) (w .rest)
+            ∙ drop-drop (r .filled - filled) filled out₀
+            ∙ ap (λ (x : ℕ). drop x out₀) d;
+        same = ap length (s .bytes) ∙ put-length out L filled fits ∙ w .same;
+      }
+
+  pub so-ends :
+      (linesOf (drop at text) ≡ drop at text ∷ []) ⊎ (length out₀ < filled + 64) →
+      Answers t₀ n b₀ text out₀ (record { trial = t; count = count; used = at; filled = filled }) b out
+  so-ends e =
+      record {
+        lines = w .cut .pieces;
+        within = w .cut .within;
+        each = w .each;
+        run = w .run;
+        room = w .room;
+        rest = w .rest;
+        ends = e;
+      }
