@@ -1,4 +1,2 @@
-pub mod ServerWrote
 pub mod Laws
-pub mod Offers
 pub mod Moves

@@ -21,9 +21,10 @@ use Rattle.server.specs.Server as S
 use Rattle.trial_core.specs.declared.Lines.{Lines}
 use Rattle.trial_core.specs.Trial.{Offering, Move, isSuccess, broadcastCount, toldWord, logged, replyFirst, broadcastFirst, withoutReply, withoutBroadcast, invokeBytes, offer, invokedMove, stoppedMove, invokeMove, repliedMove, confirmedMove, replyMove, broadcastMove, emptyMove, deliverMove}
 use Rattle.trial_moves.specs.Moves.{lentOf}
-use Rattle.trial_moves.proofs.Laws.{over-fits, part-over, part-length, logged-over}
+use Rattle.trial_offer.proofs.Parts.{over-fits, part-over, part-length}
+use Rattle.trial_moves.proofs.Laws.{logged-over}
 use Rattle.server_laws.proofs.State.{Sizes}
-use Rattle.trial_moves.proofs.ServerWrote.{server-wrote}
+use Rattle.trial_offer.proofs.ServerWrote.{server-wrote}
 
 pub move-same : {r r2 : Replica} {s s2 : Server} {l l2 : Lines} {w w2 : Word} {a a2 b b2 d d2 : List ℕ}
     → r ≡ r2 → s ≡ s2 → l ≡ l2 → w ≡ w2 → a ≡ a2 → b ≡ b2 → d ≡ d2

@@ -14,7 +14,8 @@ use Rattle.server.specs.declared.Server.{Server}
 use Rattle.trial_core.specs.declared.Lines.{Lines}
 use Rattle.trial_core.specs.declared.Trial.{Trial}
 use Rattle.trial_core.specs.Trial.{Offering, Move, Lent, LineStep, isClient, isFull, invokeMove, deliverMove, moved, unmoved, replicaOf, againOf, againTrial, againLent, commandStep, lineStep}
-use Rattle.trial_moves.specs.Moves.{lentOf, unsaid, offeredTo}
+use Rattle.trial_offer.specs.Offers.{offeredTo}
+use Rattle.trial_moves.specs.Moves.{lentOf}
 use Rattle.trial_step.specs.Step.{trialWith}
 
 -- within a list the default does not matter

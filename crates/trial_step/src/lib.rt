@@ -122,7 +122,7 @@ fn offered_again(t: Trial, replies: &mut [u8], invokes: &[u8]) -> Trial
 {
     let s = t.server;
     let l = t.lines;
-    let o = trial_moves::offer_again(s, l, replies, invokes);
+    let o = trial_offer::offer_again(s, l, replies, invokes);
     let server = o.server;
     let lines = o.lines;
     let replicas = t.replicas;

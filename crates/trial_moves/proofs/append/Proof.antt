@@ -3,7 +3,8 @@ use native.Mathlib.Omega.{arith}
 use lib.ListN.{length}
 use Prim.Native.Nat.{ℕ, _+_, _-_, _*_, _≤_}
 use mathlib.Core.Path.{_≡_, refl, ap, _∙_}
-use Rattle.trial_moves.proofs.Laws.{part-length, logged-more}
+use Rattle.trial_offer.proofs.Parts.{part-length}
+use Rattle.trial_moves.proofs.Laws.{logged-more}
 use Rattle.trial_core.specs.Trial.{logged}
 use Rattle.trial_moves.proofs.append.Statement.{statement}
 use Rattle.trial_moves.proofs.append.Tie as tie

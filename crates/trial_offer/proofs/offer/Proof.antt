@@ -3,11 +3,11 @@ use lib.ListN.{length, take, drop}
 use Prim.Native.Nat.{ℕ, _+_, _-_, _*_}
 use mathlib.Core.List.{List}
 use mathlib.Core.Path.{_≡_}
-use Rattle.trial_moves.proofs.Offers.{offered-part}
+use Rattle.trial_offer.proofs.Offers.{offered-part}
 use Rattle.server_laws.proofs.State.{Sizes}
 use borrow.Author.Needs.{needs}
-use Rattle.trial_moves.proofs.offer.Statement.{statement}
-use Rattle.trial_moves.proofs.offer.Tie as tie
+use Rattle.trial_offer.proofs.offer.Statement.{statement}
+use Rattle.trial_offer.proofs.offer.Tie as tie
 
 sizes : (c : tie.Start) → Sizes (c .args .s)
 sizes c = record { counts = search needs; items = search needs; statuses = search needs; digests = search needs; tags = search needs }

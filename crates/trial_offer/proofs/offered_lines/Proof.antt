@@ -1,6 +1,6 @@
 use borrow.Author.Needs.{needs}
-use Rattle.trial_moves.proofs.offered_lines.Statement.{statement}
-use Rattle.trial_moves.proofs.offered_lines.Tie as tie
+use Rattle.trial_offer.proofs.offered_lines.Statement.{statement}
+use Rattle.trial_offer.proofs.offered_lines.Tie as tie
 
 with-reply-requires : tie.Need-with-reply-requires
 with-reply-requires c κs = search needs

@@ -3,12 +3,12 @@ use lib.ListN.{getD}
 use Prim.Native.Nat.{_+_, _-_, _*_}
 use mathlib.Core.Bool.{Bool, true, false, _&&_}
 use mathlib.Core.Path.{_≡_, sym, ap, _∙_}
-use Rattle.trial_moves.proofs.Offers.{one-goes, one-stays}
-use Rattle.trial_moves.specs.Moves.{unsaid}
+use Rattle.trial_offer.proofs.Offers.{one-goes, one-stays}
+use Rattle.trial_offer.specs.Offers.{unsaid}
 use Rattle.trial_core.specs.Trial.{hasPlace}
 use borrow.Author.Needs.{needs}
-use Rattle.trial_moves.proofs.offer_one.Statement.{statement}
-use Rattle.trial_moves.proofs.offer_one.Tie as tie
+use Rattle.trial_offer.proofs.offer_one.Statement.{statement}
+use Rattle.trial_offer.proofs.offer_one.Tie as tie
 
 array-read-if1 : tie.Need-array-read-if1
 array-read-if1 c = search needs

@@ -13,10 +13,10 @@ use Rattle.server.specs.declared.Server.{Server}
 use Rattle.server.specs.Server.{ServerTold, Step, serverStep}
 use Rattle.trial_core.specs.declared.Lines.{Lines}
 use Rattle.trial_core.specs.Trial.{Offering, isPlaced, servedWord, withReply, withRefused, offeredLines, offer, hasPlace, offerOne, offerTo}
-use Rattle.trial_moves.specs.Moves.{unsaid, offeredOne, offeredTo}
-use Rattle.trial_moves.proofs.Laws.{over-fits, part-over, part-length, put-at}
+use Rattle.trial_offer.specs.Offers.{unsaid, offeredOne, offeredTo}
+use Rattle.trial_offer.proofs.Parts.{over-fits, part-over, part-length, put-at}
 use Rattle.server_laws.proofs.State.{Sizes}
-use Rattle.trial_moves.proofs.ServerWrote.{server-wrote}
+use Rattle.trial_offer.proofs.ServerWrote.{server-wrote}
 
 pub offering-same : {s t : Server} {l k : Lines} {v w : Word} {a b : List ℕ} → s ≡ t → l ≡ k → v ≡ w → a ≡ b
     → _≡_ {A = Offering} (record { server = s; lines = l; word = v; replies = a }) (record { server = t; lines = k; word = w; replies = b })

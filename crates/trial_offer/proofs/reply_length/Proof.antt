@@ -1,8 +1,8 @@
 use Prim.Native.Nat.{_+_}
 use native.Mathlib.Omega.{arith}
 use borrow.Author.Needs.{needs}
-use Rattle.trial_moves.proofs.reply_length.Statement.{statement}
-use Rattle.trial_moves.proofs.reply_length.Tie as tie
+use Rattle.trial_offer.proofs.reply_length.Statement.{statement}
+use Rattle.trial_offer.proofs.reply_length.Tie as tie
 
 add-result : tie.Need-add-result
 add-result c = search needs
