@@ -1,1 +1,1 @@
-// Runs of several clients that show what demand 3 says: see proofs/TwoAuthors.antt and proofs/ListedEarly.antt.
+// Runs of several clients, for any keys, that show what demand 3 says: see proofs/Witness.antt and proofs/InTags.antt.
