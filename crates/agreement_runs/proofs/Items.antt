@@ -13,8 +13,10 @@ use Rattle.message.specs.Message.{chainString, replyBytes, isReply, replyItem, 
 use Rattle.round_trips.proofs.Messages.{reply-yes, reply-read}
 use Rattle.verify.specs.Verify.{valueAt, linkValue}
 use Rattle.replica.specs.declared.Replica.{Replica}
-use Rattle.replica.specs.Replica.{every, inRange}
-use Rattle.replica.proofs.Laws.{Sized, Yes, every-each}
+use Rattle.checks.specs.Checks.{every}
+use Rattle.replica.specs.Replica.{inRange}
+use Rattle.checks.proofs.Laws.{Yes, every-each}
+use Rattle.replica.proofs.Laws.{Sized}
 use Rattle.client_reply_check.specs.ReplyChecks.{itemValue, itemChecks, lastOk, replyNo}
 use Rattle.client_reply.specs.Reply.{chainAfter, sortItem, sortTo, isAborted, lastResponse}
 use Rattle.client_laws.proofs.Chain.{item-taken, values-stay}

@@ -23,7 +23,8 @@ use Rattle.client_invoke.specs.Invoke.{openNo, openStep, invokeNo}
 use Rattle.client_broadcast.specs.Broadcast.{commitOk, seqOk, nextValue, digestOk, broadcastNo, confirmedReplica, broadcastStep}
 use Rattle.client_broadcast.proofs.Laws.{broadcast-goes}
 use Rattle.client_reply.specs.Reply.{replyStep}
-use Rattle.replica.proofs.Laws.{Sound, cond-cases}
+use Rattle.checks.proofs.Laws.{cond-cases}
+use Rattle.replica.proofs.Laws.{Sound}
 use Rattle.client_laws.proofs.Invoke.{invoke-done, invoke-sound}
 use Rattle.client_laws.proofs.Reply.{reply-sound}
 use Rattle.client_laws.proofs.Broadcast.{broadcast-sound}

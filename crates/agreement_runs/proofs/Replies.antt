@@ -14,7 +14,7 @@ use Rattle.verify.specs.Verify.{invokeTag, commitTag, itemTagOk, valueAt}
 use Rattle.verify.proofs.Laws.{invoke-tag-length}
 use Rattle.replica.specs.declared.Replica.{Replica}
 use Rattle.replica.specs.Replica.{Step}
-use Rattle.replica.proofs.Laws.{Yes}
+use Rattle.checks.proofs.Laws.{Yes}
 use Rattle.client_broadcast.specs.Broadcast.{broadcastStep}
 use Rattle.client_reply_check.specs.ReplyChecks.{itemOk, itemChainOk, itemChecks, replyNo}
 use Rattle.client_reply.specs.Reply.{chainAfter, isAborted, lastResponse, saysOf, status, repliedReplica, commitMessage, replyDone, replyStep}

@@ -11,7 +11,8 @@ use Rattle.message.specs.Message.{isBroadcast, commitOf}
 use Rattle.verify.specs.Verify.{commitTagOk, valueAt, linkValue}
 use Rattle.replica.specs.declared.Replica.{Replica}
 use Rattle.replica.specs.Outcome.{confirmed}
-use Rattle.replica.specs.Replica.{After, every, firstNo, readyChecks, stop}
+use Rattle.checks.specs.Checks.{every, firstNo}
+use Rattle.replica.specs.Replica.{After, readyChecks, stop}
 
 -- 21: "entry, author, status allowed?"
 unfoldable pub commitOk : Commit → Bool

@@ -10,7 +10,8 @@ use Rattle.message.specs.Message.{invokeBytes}
 use Rattle.verify.specs.Verify.{invokeTag}
 use Rattle.replica.specs.declared.Replica.{Replica}
 use Rattle.replica.specs.Outcome.{opened, invoked}
-use Rattle.replica.specs.Replica.{After, Step, stopStep, noCurrent, firstNo, readyChecks, refuse, freshReplica, zeroReplica}
+use Rattle.checks.specs.Checks.{firstNo}
+use Rattle.replica.specs.Replica.{After, Step, stopStep, noCurrent, readyChecks, refuse, freshReplica, zeroReplica}
 
 -- ---- opening: "van number 1 to 8? 1. Exactly 256 key bytes? 2. A refused opening gives an all-zero book."
 unfoldable pub openNo : ℕ → List ℕ → ℕ

@@ -18,7 +18,8 @@ use Rattle.verify.specs.Verify.{commitTag, commitTagOk, valueAt, linkValue}
 use Rattle.verify.proofs.Laws.{link-length}
 use Rattle.replica.specs.declared.Replica.{Replica}
 use Rattle.replica.specs.Replica.{After, inRange, stop}
-use Rattle.replica.proofs.Laws.{ranged, in-range, Sized, Sound, cond-cases, call-cases, stop-sound}
+use Rattle.checks.proofs.Laws.{cond-cases, call-cases}
+use Rattle.replica.proofs.Laws.{ranged, in-range, Sized, Sound, stop-sound}
 use Rattle.client_broadcast.specs.Broadcast.{nextValue, digestOk, broadcastNo, confirmedReplica, broadcastStep}
 use Rattle.client_broadcast.proofs.Laws.{broadcast-yes}
 

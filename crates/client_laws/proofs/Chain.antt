@@ -20,8 +20,8 @@ use Rattle.message.specs.Message.{replyCount, replyItem}
 use Rattle.verify.specs.Verify.{invokeTag, itemTagOk, valueAt}
 use Rattle.verify.proofs.Laws.{link-length}
 use Rattle.replica.specs.declared.Replica.{Replica}
-use Rattle.replica.specs.Replica.{firstNo}
-use Rattle.replica.proofs.Laws.{Yes, all-yes, first-append}
+use Rattle.checks.specs.Checks.{firstNo}
+use Rattle.checks.proofs.Laws.{Yes, all-yes, first-append}
 use Rattle.client_reply.specs.Reply.{chainItem, chainTo, chainAfter}
 use Rattle.client_reply_check.specs.ReplyChecks.{seqAt, itemValue, itemChainOk, itemChecks, itemsChecks, lastItem, replyNo}
 use Rattle.client_reply_check.proofs.Laws.{ItemAllowed, item-allowed, form-yes, reply-formed, items-passed, last-passed, last-yes}

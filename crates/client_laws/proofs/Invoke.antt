@@ -13,7 +13,8 @@ use Rattle.operation.specs.Operation.{opOk}
 use Rattle.replica.specs.declared.Replica.{Replica}
 use Rattle.replica.specs.Outcome.{invoked}
 use Rattle.replica.specs.Replica.{Step, inRange, noCurrent, freshReplica, stopStep}
-use Rattle.replica.proofs.Laws.{all-yes, and-yes, ranged, in-range, Sized, Sound, call-cases, stop-sound}
+use Rattle.checks.proofs.Laws.{all-yes, and-yes, call-cases}
+use Rattle.replica.proofs.Laws.{ranged, in-range, Sized, Sound, stop-sound}
 use Rattle.client_invoke.specs.Invoke.{openNo, invokeNo, newOp, invokedReplica, invokeMessage, invokeStep}
 use Rattle.client_invoke.proofs.Laws.{invoke-yes}
 

@@ -4,3 +4,4 @@ pub mod Chain
 pub mod Reply
 pub mod Alone
 pub mod Passes
+pub mod Calls

@@ -10,8 +10,9 @@ use Rattle.message.specs.declared.Commit.{Commit}
 use Rattle.message.specs.Message.{isReply, isBroadcast, replyCount, replyItem, commitOf}
 use Rattle.verify.specs.Verify.{commitTagOk}
 use Rattle.replica.specs.declared.Replica.{Replica}
-use Rattle.replica.specs.Replica.{noCurrent, inRange, firstNo}
-use Rattle.replica.proofs.Laws.{Yes}
+use Rattle.checks.specs.Checks.{firstNo}
+use Rattle.replica.specs.Replica.{noCurrent, inRange}
+use Rattle.checks.proofs.Laws.{Yes}
 use Rattle.client_invoke.specs.Invoke.{invokeChecks, invokeNo}
 use Rattle.client_broadcast.specs.Broadcast as B
 use Rattle.client_broadcast.specs.Broadcast.{commitOk, seqOk, digestOk, contentChecks, proofChecks, broadcastNo}

@@ -15,7 +15,8 @@ use Rattle.operation.specs.Operation.{noOp}
 use Rattle.message.specs.Message.{replyCount, replyItem}
 use Rattle.replica.specs.declared.Replica.{Replica}
 use Rattle.replica.specs.Replica.{Step, inRange, stopStep}
-use Rattle.replica.proofs.Laws.{ranged, in-range, Sized, Sound, cond-cases, call-cases, stop-sound}
+use Rattle.checks.proofs.Laws.{cond-cases, call-cases}
+use Rattle.replica.proofs.Laws.{ranged, in-range, Sized, Sound, stop-sound}
 use Rattle.client_reply.specs.Reply.{chainTo, chainAfter, isAborted, heldStatus, larger, repliedReplica, replyDone, replyStep}
 use Rattle.client_reply_check.specs.ReplyChecks.{itemValue, replyNo}
 use Rattle.client_reply_check.proofs.Laws.{Formed, form-yes, reply-formed, last-passed, last-yes}

@@ -12,7 +12,7 @@ use Rattle.operation.specs.Operation.{opOk, sameOp, noOp}
 use Rattle.message.specs.declared.Commit.{Commit}
 use Rattle.message.specs.Message.{isInvoke, itemAt, commitOf}
 use Rattle.replica.specs.declared.Replica.{Replica}
-use Rattle.replica.proofs.Laws.{every-each}
+use Rattle.checks.proofs.Laws.{every-each}
 use Rattle.server.specs.declared.Server.{Server}
 use Rattle.server.specs.Server.{itemOk, invokeOk, commitOk, authorOf, lineChecks, lastCount, invokeChecks, slotItem, slotOf, placeOk, commitChecks, serverNo}
 use Rattle.server.specs.Server as Sv

@@ -10,7 +10,7 @@ use native.Mathlib.Numerals.{add-one}
 use Rattle.slices.proofs.Laws.{and-yes}
 use Rattle.message.specs.Message.{isInvoke}
 use Rattle.replica.specs.declared.Replica.{Replica}
-use Rattle.replica.proofs.Laws.{cond-cases}
+use Rattle.checks.proofs.Laws.{cond-cases}
 use Rattle.server.specs.declared.Server.{Server}
 use Rattle.server.specs.Server as Sv
 use Rattle.server.specs.Server.{serverStep, stopStep}

@@ -16,7 +16,7 @@ use Rattle.replica.specs.declared.Replica.{Replica}
 use Rattle.replica.specs.Outcome as O
 use Rattle.replica.specs.Outcome.{Told}
 use Rattle.replica.specs.Replica.{After, Step, stop, stopStep, halt, refuse, noCurrent}
-use Rattle.replica.proofs.Laws.{cond-cases, all-yes}
+use Rattle.checks.proofs.Laws.{cond-cases, all-yes}
 use Rattle.client_invoke.specs.Invoke.{newOp, invokeChecks, invokeNo, invokeMessage, invokeStep}
 use Rattle.client_broadcast.specs.Broadcast.{broadcastNo, broadcastStep}
 use Rattle.client_reply_check.specs.ReplyChecks.{replyNo}

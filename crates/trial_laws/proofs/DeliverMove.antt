@@ -12,7 +12,7 @@ use Rattle.slices.proofs.Laws.{and-yes}
 use Rattle.replica.specs.declared.Replica.{Replica}
 use Rattle.replica.specs.Outcome.{Told}
 use Rattle.replica.specs.Replica.{zeroReplica}
-use Rattle.replica.proofs.Laws.{cond-cases}
+use Rattle.checks.proofs.Laws.{cond-cases}
 use Rattle.client.specs.Receive.{receiveStep}
 use Rattle.progress.specs.HonestRuns as H
 use Rattle.progress.specs.HonestRuns.{World, Line, Action, act, runFrom, deliverHead, toldHead, toldIn}

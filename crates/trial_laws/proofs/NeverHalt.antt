@@ -5,7 +5,7 @@ use mathlib.Core.Logic.{⊎-elim}
 use mathlib.Core.List.{List, [], _∷_, _++_, append-assoc, List·Memᴰ, List·Memᴰ·head, List·Memᴰ·tail, List·Memᴰ·not-nil, List·Memᴰ·cases-cons}
 use Rattle.replica.specs.Outcome as O
 use Rattle.replica.specs.Outcome.{Told}
-use Rattle.replica.proofs.Laws.{cond-cases}
+use Rattle.checks.proofs.Laws.{cond-cases}
 use Rattle.client_invoke.specs.Invoke.{invokeStep}
 use Rattle.client.specs.Receive.{receiveStep}
 use Rattle.server.specs.Server as Sv

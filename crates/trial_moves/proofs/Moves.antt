@@ -12,7 +12,7 @@ use Rattle.trial_text.specs.Line.{Word, empty}
 use Rattle.replica.specs.declared.Replica.{Replica}
 use Rattle.replica.specs.Outcome.{Told}
 use Rattle.replica.specs.Replica.{After, Step, over, stopStep}
-use Rattle.replica.proofs.Laws.{and-yes, call-cases}
+use Rattle.checks.proofs.Laws.{and-yes, call-cases}
 use Rattle.client_invoke.specs.Invoke.{invokeNo, invokeStep}
 use Rattle.client.specs.Receive.{receiveStep}
 use Rattle.server.specs.declared.Server.{Server}

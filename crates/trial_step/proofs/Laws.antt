@@ -9,7 +9,7 @@ use native.Mathlib.Omega.{arith}
 use borrow.Author.Tests.{leb-true}
 use Rattle.trial_text.specs.Line.{Asked, Word, empty, bad, full, invoke, deliver, other}
 use Rattle.replica.specs.declared.Replica.{Replica}
-use Rattle.replica.proofs.Laws.{and-yes}
+use Rattle.checks.proofs.Laws.{and-yes}
 use Rattle.server.specs.declared.Server.{Server}
 use Rattle.trial_core.specs.declared.Lines.{Lines}
 use Rattle.trial_core.specs.declared.Trial.{Trial}
