@@ -1,13 +1,11 @@
 // The checks of a commit's sequence number: 35 and 36. Definitions: specs/Server.antt of server, specs/Check.antt.
 ghost use mathlib.Core.Path.{_≡_};
 ghost use Prim.Native.Nat.{_-_, _≤_};
-ghost use Rattle.replica.specs.Replica.{firstNo};
-ghost use Rattle.server.specs.Server.{checkNo, placeOk};
+ghost use Rattle.checks.specs.Checks.{firstNo};
+ghost use Rattle.server.specs.Server.{placeOk};
 ghost use Rattle.server_commit_check.specs.Check.{placeChecks};
 use message::Commit;
 use server::Server;
-use server::ServerCheck;
-use server::ServerRefusal;
 
 // Whether the commit's sequence number waits, with that operation and author.
 fn place_ok(s: Server, k: Commit) -> bool
@@ -29,16 +27,16 @@ fn place_ok(s: Server, k: Commit) -> bool
 }
 
 // The checks, in their order.
-pub fn place_check(s: Server, k: Commit) -> ServerCheck
+pub fn place_check(s: Server, k: Commit) -> u8
     requires { ⌜ (s .passed ≤ s .placed) × (s .placed ≤ 1000000) × (s .placed - s .passed ≤ 32) ⌝ }
-    ensures { λ q. ⌜ checkNo q ≡ firstNo 0 (placeChecks s k) ⌝ }
+    ensures { λ q. ⌜ q ≡ firstNo 0 (placeChecks s k) ⌝ }
 {
     if place_ok(s, k) {
         let first = s.passed + 1;
         let j = (k.seq - first) as usize;
         let status = server::slot_status(s, j);
-        server::also(ServerCheck::Pass, status == 0, ServerRefusal::Committed)
+        checks::also(0, status == 0, 36)
     } else {
-        ServerCheck::No(ServerRefusal::Place)
+        35
     }
 }

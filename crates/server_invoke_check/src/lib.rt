@@ -3,12 +3,10 @@ ghost use mathlib.Core.Path.{_≡_};
 ghost use Prim.Native.Nat.{_+_, _-_, _≤_};
 ghost use lib.ListN.{getD};
 ghost use lib.Dec.{eqb};
-ghost use Rattle.replica.specs.Replica.{firstNo};
-ghost use Rattle.server.specs.Server.{checkNo, invokeChecks};
+ghost use Rattle.checks.specs.Checks.{firstNo};
+ghost use Rattle.server.specs.Server.{invokeChecks};
 use message::Item;
 use server::Server;
-use server::ServerCheck;
-use server::ServerRefusal;
 
 // A client's last placed count.
 fn last_count(counts: [u32; 8], author: u8) -> u32
@@ -27,9 +25,9 @@ fn is_next(count: u32, last: u32) -> bool
 }
 
 // The checks, in their order.
-pub fn invoke_check(s: Server, i: Item, room: usize) -> ServerCheck
+pub fn invoke_check(s: Server, i: Item, room: usize) -> u8
     requires { ⌜ (s .passed ≤ s .placed) × (s .placed ≤ 1000000) × (1 ≤ i .author) × (i .author ≤ 8) ⌝ }
-    ensures { λ q. ⌜ checkNo q ≡ firstNo 0 (invokeChecks s i room) ⌝ }
+    ensures { λ q. ⌜ q ≡ firstNo 0 (invokeChecks s i room) ⌝ }
 {
     let counts = s.counts;
     let e = i.op;
@@ -37,8 +35,8 @@ pub fn invoke_check(s: Server, i: Item, room: usize) -> ServerCheck
     let last = last_count(counts, i.author);
     let next = is_next(e.count, last);
     let waiting = (placed - s.passed) as usize;
-    let q = server::also(ServerCheck::Pass, next, ServerRefusal::Count);
-    let q = server::also(q, waiting < 32, ServerRefusal::Pending);
-    let q = server::also(q, placed < 1000000, ServerRefusal::Full);
-    server::also(q, 3 + (waiting + 1) * 41 <= room, ServerRefusal::Room)
+    let q = checks::also(0, next, 32);
+    let q = checks::also(q, waiting < 32, 33);
+    let q = checks::also(q, placed < 1000000, 34);
+    checks::also(q, 3 + (waiting + 1) * 41 <= room, 7)
 }

@@ -11,10 +11,10 @@ use native.Mathlib.Nat.{eq-or-lt-of-le, le-of-suc-le-suc}
 use borrow.Author.Tests.{leb-true, le-leb}
 use Rattle.slices.specs.Bytes.{all, isZero}
 use Rattle.slices.proofs.Laws.{and-yes}
+use Rattle.checks.proofs.Laws.{every-yes, every-each}
 use Rattle.operation.specs.declared.Operation.{Operation}
 use Rattle.operation.specs.Operation.{opOk}
 use Rattle.message.specs.declared.Item.{Item}
-use Rattle.replica.proofs.Laws.{every-yes, every-each}
 use Rattle.server.specs.declared.Server.{Server}
 use Rattle.server.specs.Server.{unusedOk, pending, slotItem, slotStatus, slotDigest, slotTag, itemOk, slotOk, slotsOk, inRange}
 use Rattle.server_laws.proofs.State.{Sizes}

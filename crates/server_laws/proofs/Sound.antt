@@ -11,12 +11,12 @@ use native.Mathlib.Omega.{arith}
 use native.Mathlib.Decide.{ℕ-discrete}
 use Rattle.slices.specs.Bytes.{all, isZero}
 use Rattle.slices.proofs.Laws.{all-drop, all-drop-more, all-append, all-drop-append, all-set, all-replicate, drop-put}
+use Rattle.checks.proofs.Laws.{cond-cases}
 use Rattle.message.specs.declared.Item.{Item}
 use Rattle.message.specs.declared.Commit.{Commit}
 use Rattle.message.specs.Readers.{ItemFits}
 use Rattle.message.specs.Message.{itemBytes}
 use Rattle.message.proofs.Laws.{item-length}
-use Rattle.replica.proofs.Laws.{cond-cases}
 use Rattle.client_laws.proofs.Chain.{le-or-lt}
 use Rattle.server.specs.declared.Server.{Server}
 use Rattle.server.specs.Server.{pending, slotDigest, slotTag, itemOk, slotOk, heldStatus, slotOf, placedServer, storedServer, passedServer}

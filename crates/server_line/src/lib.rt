@@ -1,11 +1,9 @@
 // The checks of both messages: 8, 30 and 31. Definitions: specs/Server.antt of server.
 ghost use mathlib.Core.Path.{_≡_};
 ghost use lib.ListN.{getD};
-ghost use Rattle.replica.specs.Replica.{firstNo};
-ghost use Rattle.server.specs.Server.{checkNo, invokeOk, commitOk, lineChecks};
+ghost use Rattle.checks.specs.Checks.{firstNo};
+ghost use Rattle.server.specs.Server.{invokeOk, commitOk, lineChecks};
 use server::Server;
-use server::ServerCheck;
-use server::ServerRefusal;
 
 // Whether the bytes are an invoke whose operation and author are allowed.
 fn invoke_ok(m: &[u8]) -> bool
@@ -36,16 +34,12 @@ fn author_of(m: &[u8]) -> u8
 }
 
 // The checks, in their order.
-pub fn line_check(s: Server, line: u8, m: &[u8]) -> ServerCheck
-    ensures { λ q. ⌜ checkNo q ≡ firstNo 0 (lineChecks s line (now (m .entry))) ⌝ }
+pub fn line_check(s: Server, line: u8, m: &[u8]) -> u8
+    ensures { λ q. ⌜ q ≡ firstNo 0 (lineChecks s line (now (m .entry))) ⌝ }
 {
     let author = author_of(m);
     let form = invoke_ok(m) | commit_ok(m);
-    let q = server::also(
-        ServerCheck::Pass,
-        server_range::in_range(s),
-        ServerRefusal::Range,
-    );
-    let q = server::also(q, form, ServerRefusal::Form);
-    server::also(q, author == line, ServerRefusal::Line)
+    let q = checks::also(0, server_range::in_range(s), 8);
+    let q = checks::also(q, form, 30);
+    checks::also(q, author == line, 31)
 }

@@ -2,11 +2,11 @@ use mathlib.Core.List.{[], _∷_}
 use mathlib.Core.Bool.{true}
 use lib.Dec.{leb}
 use borrow.Author.Needs.{needs}
+use Rattle.checks.specs.Checks.{every}
 use Rattle.operation.specs.Operation.{opOk}
 use Rattle.message.specs.declared.Commit.{Commit}
 use Rattle.message.specs.Message.{isCommit, commitOf}
 use Rattle.message.specs.Readers.{noCommit, readCommit}
-use Rattle.replica.specs.Replica.{every}
 use Rattle.server.specs.Server.{commitOk}
 use Rattle.server_line.proofs.Laws.{read-ok}
 use Rattle.server_line.proofs.commit_ok.Statement.{statement}
