@@ -1,9 +1,9 @@
 -- Laws of outcomes and of the lines. Assumes nothing.
-use Prim.Native.Nat.{ℕ, zero, suc, _+_, _-_, _<_, _≤_}
+use Prim.Native.Nat.{ℕ, _+_, _-_}
 use mathlib.Core.Path.{_≡_, refl}
 use mathlib.Core.List.{List}
-use mathlib.Core.Bool.{Bool, true, false, _&&_, _||_}
-use lib.Dec.{leb, ltb}
+use mathlib.Core.Bool.{true, _||_}
+use lib.Dec.{leb}
 use lib.ListN.{getD}
 use native.Mathlib.Numerals.{add-one}
 use Rattle.replica.specs.declared.Done.{Done}

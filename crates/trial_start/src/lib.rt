@@ -2,7 +2,7 @@
 ghost use mathlib.Core.Path.{_≡_};
 ghost use lib.ListN.{replicate};
 ghost use Rattle.client_invoke.specs.Invoke.{openStep};
-ghost use Rattle.trial_core.specs.Trial.{keysTo, trialKeys, startTrial};
+ghost use Rattle.trial_core.specs.Trial.{trialKeys, startTrial};
 use replica::Replica;
 use trial_core::Lines;
 use trial_core::Trial;

@@ -1,6 +1,6 @@
 use Prim.Native.Nat.{_+_}
 use mathlib.Core.Path.{_∙_}
-use Rattle.trial_moves.proofs.Moves.{commit-fits, commit-logged, commit-server}
+use Rattle.trial_moves.proofs.Delivering.{commit-fits, commit-logged, commit-server}
 use Rattle.server_laws.proofs.State.{Sizes}
 use borrow.Author.Needs.{needs}
 use Rattle.trial_moves.proofs.commit.Statement.{statement}

@@ -1,5 +1,5 @@
 use mathlib.Core.Path.{sym, _∙_}
-use Rattle.trial_moves.proofs.Moves.{reply-short, head-reply, head-broadcast, head-none}
+use Rattle.trial_moves.proofs.Delivering.{reply-short, head-reply, head-broadcast, head-none}
 use borrow.Author.Needs.{needs}
 use Rattle.trial_moves.proofs.deliver.Statement.{statement}
 use Rattle.trial_moves.proofs.deliver.Tie as tie

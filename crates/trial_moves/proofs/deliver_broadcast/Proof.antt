@@ -2,7 +2,7 @@ use native.Mathlib.Omega.{arith}
 use lib.ListN.{getD}
 use Prim.Native.Nat.{ℕ, _+_, _-_, _*_, _%_}
 use mathlib.Core.Path.{_≡_, sym, _∙_}
-use Rattle.trial_moves.proofs.Moves.{broadcast-goes, broadcast-stops}
+use Rattle.trial_moves.proofs.Delivering.{broadcast-goes, broadcast-stops}
 use borrow.Author.Needs.{needs}
 use Rattle.trial_moves.proofs.deliver_broadcast.Statement.{statement}
 use Rattle.trial_moves.proofs.deliver_broadcast.Tie as tie

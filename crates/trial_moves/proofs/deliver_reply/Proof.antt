@@ -2,7 +2,7 @@ use native.Mathlib.Omega.{arith}
 use lib.ListN.{getD}
 use Prim.Native.Nat.{ℕ, _+_, _-_, _*_}
 use mathlib.Core.Path.{_≡_, sym, _∙_}
-use Rattle.trial_moves.proofs.Moves.{reply-goes, reply-stops}
+use Rattle.trial_moves.proofs.Delivering.{reply-goes, reply-stops}
 use borrow.Author.Needs.{needs}
 use Rattle.trial_moves.proofs.deliver_reply.Statement.{statement}
 use Rattle.trial_moves.proofs.deliver_reply.Tie as tie

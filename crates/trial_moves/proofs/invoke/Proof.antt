@@ -3,7 +3,7 @@ use lib.ListN.{length, take, drop}
 use Prim.Native.Nat.{ℕ, _+_, _-_, _*_}
 use mathlib.Core.List.{List}
 use mathlib.Core.Path.{_≡_, sym, _∙_}
-use Rattle.trial_moves.proofs.Moves.{invoke-goes, invoke-stops}
+use Rattle.trial_moves.proofs.Invoking.{invoke-goes, invoke-stops}
 use borrow.Author.Needs.{needs}
 use Rattle.trial_moves.proofs.invoke.Statement.{statement}
 use Rattle.trial_moves.proofs.invoke.Tie as tie
