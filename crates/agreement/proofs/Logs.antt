@@ -5,7 +5,7 @@ use mathlib.Core.Logic.{_⊎_, inl, inr}
 use mathlib.Core.List.{List, [], _∷_, _++_, List·Memᴰ, List·Memᴰ·not-nil, List·Memᴰ·cases-cons}
 use Rattle.replica.specs.declared.Replica.{Replica}
 use Rattle.replica.specs.Outcome.{Told, opened, invoked, responded, aborted, confirmed, refused, halted}
-use Rattle.agreement.specs.WholeRuns.{caller, Event, took, says}
+use Rattle.agreement.specs.WholeRuns.{caller, Logged, took, says}
 use Rattle.agreement.proofs.Trace.{At, here, at-cons, Ev, evIn, evOf, onto}
 use Rattle.agreement.proofs.Runs.{onto-sub}
 
@@ -22,19 +22,19 @@ single-in opened i r m s = none refl
 single-in (refused n) i r m s = none refl
 single-in (halted n) i r m s = none refl
 
-single : (e : Event) → Single (evOf e)
+single : (e : Logged) → Single (evOf e)
 unfolding evOf
 single e = single-in (says e) (caller (e .call)) (e .before) (took e) (e .step .after .replica)
 
-pub record Split (es : List Event) (tr : List Ev) (ev : Ev) (o : List Ev) : Type 0 where
-  pub older : List Event
-  pub event : Event
-  pub newer : List Event
+pub record Split (es : List Logged) (tr : List Ev) (ev : Ev) (o : List Ev) : Type 0 where
+  pub older : List Logged
+  pub event : Logged
+  pub newer : List Logged
   pub is : es ≡ older ++ (event ∷ newer)
   pub did : evOf event ≡ ev ∷ []
   pub past : o ≡ onto older tr
 
-pub at-split : (es : List Event) (tr : List Ev) {ev : Ev} {o : List Ev} → At (onto es tr) ev o → At tr ev o ⊎ Split es tr ev o
+pub at-split : (es : List Logged) (tr : List Ev) {ev : Ev} {o : List Ev} → At (onto es tr) ev o → At tr ev o ⊎ Split es tr ev o
 unfolding onto
 at-split [] tr h = inl h
 at-split (e ∷ es) tr {ev} {o} h = go (at-split es (evOf e ++ tr) h)
@@ -49,16 +49,16 @@ at-split (e ∷ es) tr {ev} {o} h = go (at-split es (evOf e ++ tr) h)
 
     go : At (evOf e ++ tr) ev o ⊎ Split es (evOf e ++ tr) ev o → At tr ev o ⊎ Split (e ∷ es) tr ev o
     go (inl a) = first (single e) a
-    go (inr s) = inr (record { older = e ∷ s .older; event = s .event; newer = s .newer; is = ap (λ (l : List Event). e ∷ l) (s .is); did = s .did; past = s .past })
+    go (inr s) = inr (record { older = e ∷ s .older; event = s .event; newer = s .newer; is = ap (λ (l : List Logged). e ∷ l) (s .is); did = s .did; past = s .past })
 
-pub log-split : (es : List Event) {ev : Ev} {o : List Ev} → At (onto es []) ev o → Split es [] ev o
+pub log-split : (es : List Logged) {ev : Ev} {o : List Ev} → At (onto es []) ev o → Split es [] ev o
 log-split es {ev} {o} h = go (at-split es [] h)
   where
     go : At [] ev o ⊎ Split es [] ev o → Split es [] ev o
     go (inl a) = elim a [ ]
     go (inr s) = s
 
-pub mem-at : (es : List Event) (tr : List Ev) (e : Event) {ev : Ev} → List·Memᴰ e es → evOf e ≡ ev ∷ [] → (o : List Ev) × At (onto es tr) ev o
+pub mem-at : (es : List Logged) (tr : List Ev) (e : Logged) {ev : Ev} → List·Memᴰ e es → evOf e ≡ ev ∷ [] → (o : List Ev) × At (onto es tr) ev o
 unfolding onto
 mem-at [] tr e m q = absurd (List·Memᴰ·not-nil m)
 mem-at (x ∷ es) tr e {ev} m q = go (λ m. mem-at es (evOf x ++ tr) e m q) (List·Memᴰ·cases-cons m)

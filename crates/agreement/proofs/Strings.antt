@@ -23,7 +23,7 @@ use Rattle.client_reply.specs.Reply.{chainAfter, isAborted}
 use Rattle.client_laws.proofs.Chain.{item-taken, last-current}
 use Rattle.client_laws.proofs.Reply.{reply-sized, replied-chain, last-seq}
 use Rattle.client_laws.proofs.Broadcast.{broadcast-digest, next-length}
-use Rattle.agreement.specs.WholeRuns.{caller, Event, took, allOf, itemStrings, broadcastString, strings, itemTag, itemTags, broadcastTag, tags}
+use Rattle.agreement.specs.WholeRuns.{caller, Logged, took, allOf, itemStrings, broadcastString, strings, itemTag, itemTags, broadcastTag, tags}
 use Rattle.agreement.proofs.Trace.{Com, Ev, commit, confirm, onto}
 use Rattle.agreement.proofs.Confirm.{confirms}
 use Rattle.agreement.proofs.Runs.{Ready, Fine}
@@ -31,7 +31,7 @@ use Rattle.agreement.proofs.Logs.{Split}
 use Rattle.agreement.proofs.Events.{comOf, Kind, quiet, makes, commits, confirms-it, kind-of, commit-strings, commit-tags, confirm-strings, confirm-tags}
 
 -- ---- lists
-pub in-all : {A : Type 0} (f : Event → List A) (es : List Event) {e : Event} {x : A} → List·Memᴰ e es → List·Memᴰ x (f e) → List·Memᴰ x (allOf f es)
+pub in-all : {A : Type 0} (f : Logged → List A) (es : List Logged) {e : Logged} {x : A} → List·Memᴰ e es → List·Memᴰ x (f e) → List·Memᴰ x (allOf f es)
 unfolding allOf
 in-all f [] m h = absurd (List·Memᴰ·not-nil m)
 in-all {A} f (y ∷ es) {e} {x} m h = go (λ m. in-all f es m h) (List·Memᴰ·cases-cons m)
@@ -100,17 +100,17 @@ module _ (r : Replica) (m : List ℕ) (z : broadcastNo r m ≡ 0) (s : Sized r) 
   digest-long = ap length (broadcast-digest r m z) ∙ next-length r (commitOf m) (s .chain)
 
 -- ---- a commit and a confirmation of the trace, in the log
-module _ (keys : List ℕ) (log : List Event) (F : (e : Event) → List·Memᴰ e log → Fine keys e) where
-  pub split-mem : (older newer : List Event) (e : Event) → log ≡ older ++ (e ∷ newer) → List·Memᴰ e log
-  split-mem older newer e q = subst (λ (l : List Event). List·Memᴰ e l) (sym q) (Memᴰ·append-right older (List·Memᴰ·head refl))
+module _ (keys : List ℕ) (log : List Logged) (F : (e : Logged) → List·Memᴰ e log → Fine keys e) where
+  pub split-mem : (older newer : List Logged) (e : Logged) → log ≡ older ++ (e ∷ newer) → List·Memᴰ e log
+  split-mem older newer e q = subst (λ (l : List Logged). List·Memᴰ e l) (sym q) (Memᴰ·append-right older (List·Memᴰ·head refl))
 
-  pub older-mem : (older newer : List Event) (e x : Event) → log ≡ older ++ (e ∷ newer) → List·Memᴰ x older → List·Memᴰ x log
-  older-mem older newer e x q m = subst (λ (l : List Event). List·Memᴰ x l) (sym q) (Memᴰ·append-left (e ∷ newer) m)
+  pub older-mem : (older newer : List Logged) (e x : Logged) → log ≡ older ++ (e ∷ newer) → List·Memᴰ x older → List·Memᴰ x log
+  older-mem older newer e x q m = subst (λ (l : List Logged). List·Memᴰ x l) (sym q) (Memᴰ·append-left (e ∷ newer) m)
 
   pub record Commits (i : ℕ) (k : Com) (o : List Ev) : Type 0 where
-    pub older : List Event
-    pub newer : List Event
-    pub event : Event
+    pub older : List Logged
+    pub newer : List Logged
+    pub event : Logged
     pub is : log ≡ older ++ (event ∷ newer)
     pub past : o ≡ onto older []
     pub com-is : comOf event ≡ k
@@ -147,9 +147,9 @@ module _ (keys : List ℕ) (log : List Event) (F : (e : Event) → List·Memᴰ 
           }
 
   pub record Confirms (v : List ℕ) (k : Commit) (o : List Ev) : Type 0 where
-    pub older : List Event
-    pub newer : List Event
-    pub event : Event
+    pub older : List Logged
+    pub newer : List Logged
+    pub event : Logged
     pub is : log ≡ older ++ (event ∷ newer)
     pub past : o ≡ onto older []
     pub value-is : valueAt 0 (event .before .chain) ≡ v

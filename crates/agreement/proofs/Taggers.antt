@@ -20,7 +20,7 @@ use Rattle.verify.proofs.Laws.{invoke-tag-length, commit-tag-length}
 use Rattle.replica.specs.Replica.{Step}
 use Rattle.client_invoke.specs.Invoke.{newOp}
 use Rattle.client_laws.proofs.Invoke.{invoke-current}
-use Rattle.agreement.specs.WholeRuns.{caller, Event, took, entryOf, tagBy, Tagged}
+use Rattle.agreement.specs.WholeRuns.{caller, Logged, took, entryOf, tagBy, Tagged}
 use Rattle.agreement.proofs.Trace.{At, Com, Ev, made, commit, comSeq, comDigest, comStatus, onto}
 use Rattle.agreement.proofs.Invariant.{Committed}
 use Rattle.agreement.proofs.Runs.{Fine}
@@ -37,25 +37,25 @@ stable (yes a) n = a
 stable (no m) n = absurd (n m)
 
 module _ (keys : List ℕ) (a : ℕ) (s : List ℕ) where
-  more : {e : Event} {es : List Event} → Tagged keys es a s → Tagged keys (e ∷ es) a s
+  more : {e : Logged} {es : List Logged} → Tagged keys es a s → Tagged keys (e ∷ es) a s
   more T = record { event = T .event; mem = List·Memᴰ·tail (T .mem); by = T .by; wrote = T .wrote }
 
-  first : {e : Event} {es : List Event} (T : Tagged keys (e ∷ es) a s) → (Tagged keys es a s → ⊥) → T .event ≡ e
+  first : {e : Logged} {es : List Logged} (T : Tagged keys (e ∷ es) a s) → (Tagged keys es a s → ⊥) → T .event ≡ e
   first {e} {es} T n = go (List·Memᴰ·cases-cons (T .mem))
     where
       go : (T .event ≡ e) ⊎ List·Memᴰ (T .event) es → T .event ≡ e
       go (inl q) = q
       go (inr m) = absurd (n (record { event = T .event; mem = m; by = T .by; wrote = T .wrote }))
 
-  pub tagged? : (es : List Event) → Dec (Tagged keys es a s)
+  pub tagged? : (es : List Logged) → Dec (Tagged keys es a s)
   tagged? [] = no (λ T. List·Memᴰ·not-nil (T .mem))
   tagged? (e ∷ es) = go (tagged? es) (ℕ-discrete (caller (e .call)) a) (bytes? (e .step .wrote) (s ++ tagBy keys a s))
     where
       go : Dec (Tagged keys es a s) → Dec (caller (e .call) ≡ a) → Dec (e .step .wrote ≡ s ++ tagBy keys a s) → Dec (Tagged keys (e ∷ es) a s)
       go (yes T) p q = yes (more T)
       go (no n) (yes p) (yes q) = yes (record { event = e; mem = List·Memᴰ·head refl; by = p; wrote = q })
-      go (no n) (no p) q = no (λ T. p (ap (λ (e : Event). caller (e .call)) (sym (first T n)) ∙ T .by))
-      go (no n) (yes p) (no q) = no (λ T. q (ap (λ (e : Event). e .step .wrote) (sym (first T n)) ∙ T .wrote))
+      go (no n) (no p) q = no (λ T. p (ap (λ (e : Logged). caller (e .call)) (sym (first T n)) ∙ T .by))
+      go (no n) (yes p) (no q) = no (λ T. q (ap (λ (e : Logged). e .step .wrote) (sym (first T n)) ∙ T .wrote))
 
 -- ---- the call that tagged it
 -- two strings with their tags
@@ -74,12 +74,12 @@ tag-long keys a s = hmac-length _ _
 not-none : (s t : List ℕ) → length t ≡ 32 → [] ≡ s ++ t → ⊥
 not-none s t h q = (let l = length-append s t in let z : 0 ≡ length (s ++ t) = ap length q in absurd (omega arith))
 
-pub data Tagger (older : List Event) (a : ℕ) (s : List ℕ) : Type 0 where
+pub data Tagger (older : List Logged) (a : ℕ) (s : List ℕ) : Type 0 where
   byMake : (op : Operation) (o : List Ev) (n : ℕ) → At (onto older []) (made a op) o → op .count < 2 ^ 32 → s ≡ invokeString op n → Tagger older a s
   byReply : (k : Com) (o : List Ev) (n : ℕ) → At (onto older []) (commit a k) o → k .r .current .count < 2 ^ 32 → comSeq k < 2 ^ 32
       → length (comDigest k) ≡ 32 → s ≡ commitString (k .r .current) n (comSeq k) (comDigest k) (comStatus k) → Tagger older a s
 
-pub tagger : (keys : List ℕ) (older : List Event) (a : ℕ) (s : List ℕ) → ((e : Event) → List·Memᴰ e older → Fine keys e) → Tagged keys older a s → Tagger older a s
+pub tagger : (keys : List ℕ) (older : List Logged) (a : ℕ) (s : List ℕ) → ((e : Logged) → List·Memᴰ e older → Fine keys e) → Tagged keys older a s → Tagger older a s
 tagger keys older a s F T = go (kind-of (T .event) (f .case))
   where
     f : Fine keys (T .event)
@@ -115,14 +115,14 @@ unfolding invokeString commitString
 apart e f a b p d s q = (let z : _≡_ {A = ℕ} 73 67 = ap (λ (l : List ℕ). getD l 0 0) q in omega arith)
 
 -- an operation with a right tag was made
-pub made-before : (older : List Event) (a : ℕ) (op : Operation) → op .count < 2 ^ 32 → Tagger older a (invokeString op a)
+pub made-before : (older : List Logged) (a : ℕ) (op : Operation) → op .count < 2 ^ 32 → Tagger older a (invokeString op a)
     → (p : List Ev) × At (onto older []) (made a op) p
 made-before older a op h (byMake op′ o n at g q) =
     let f = invoke-string-fields op op′ a n h g q in (o, subst (λ (x : Operation). At (onto older []) (made a x) o) (sym (f .0)) at)
 made-before older a op h (byReply k o n at g₁ g₂ g₃ q) = absurd (apart op (k .r .current) a n (comSeq k) (comDigest k) (comStatus k) q)
 
 -- a commit with a right tag was written
-pub committed-before : (older : List Event) (k : Commit) → k .op .count < 2 ^ 32 → k .seq < 2 ^ 32 → length (k .digest) ≡ 32
+pub committed-before : (older : List Logged) (k : Commit) → k .op .count < 2 ^ 32 → k .seq < 2 ^ 32 → length (k .digest) ≡ 32
     → Tagger older (k .author) (commitString (k .op) (k .author) (k .seq) (k .digest) (k .status)) → Committed (onto older []) (entryOf k) (k .digest)
 committed-before older k h₁ h₂ h₃ (byMake op o n at g q) = absurd (apart op (k .op) n (k .author) (k .seq) (k .digest) (k .status) (sym q))
 committed-before older k h₁ h₂ h₃ (byReply l o n at g₁ g₂ g₃ q) =

@@ -18,7 +18,7 @@ use Rattle.verify.proofs.Laws.{invoke-tag-length}
 use Rattle.replica.specs.Outcome.{responded}
 use Rattle.client_broadcast.specs.Broadcast.{confirmedReplica}
 use Rattle.client_reply.specs.Reply.{repliedReplica}
-use Rattle.agreement.specs.WholeRuns.{Call, invoke, receive, caller, messageOf, start, update, Event, logOf, allOf, taken, Confirmation, entryOf, history, entries, answer, Got, runEntries, due, strings, Carried, itemTag, tags, tagBy, Tagged, LetOff, forgery, Agreement}
+use Rattle.agreement.specs.WholeRuns.{Call, invoke, receive, caller, messageOf, start, update, Logged, logOf, allOf, taken, Confirmation, entryOf, history, entries, answer, Got, runEntries, due, strings, Carried, itemTag, tags, tagBy, Tagged, LetOff, forgery, Agreement}
 use Rattle.agreement.proofs.Events.{made-wrote}
 use Rattle.agreement.proofs.Taggers.{front-same, tag-long}
 use Rattle.agreement_runs.proofs.Shown.{Good, end, next, good-strings, good-tags, distinct, Run, done, call, run-is}
@@ -38,22 +38,22 @@ calls keys =
     ∷ receive 2 (broadcastBytes (kA keys)) 0
     ∷ []
 
-abbrev e₁ : List ℕ → Event
+abbrev e₁ : List ℕ → Logged
 e₁ keys = madeEvent 1 (a₀ keys) 3 0 0
 
-abbrev e₂ : List ℕ → Event
+abbrev e₂ : List ℕ → Logged
 e₂ keys = replyEvent 1 (a₁ keys) (iB keys ∷ iA keys ∷ []) 2 false 0
 
-abbrev e₃ : List ℕ → Event
+abbrev e₃ : List ℕ → Logged
 e₃ keys = madeEvent 1 (a₂ keys) 4 0 9
 
-abbrev e₄ : List ℕ → Event
+abbrev e₄ : List ℕ → Logged
 e₄ keys = replyEvent 1 (a₃ keys) (iB keys ∷ []) 1 false 1
 
-abbrev rest : List ℕ → List Event
+abbrev rest : List ℕ → List Logged
 rest keys = e₃ keys ∷ e₄ keys ∷ confirmEvent 2 (b₀ keys) (kB keys) ∷ confirmEvent 2 (b₁ keys) (kA keys) ∷ []
 
-abbrev log : List ℕ → List Event
+abbrev log : List ℕ → List Logged
 log keys = e₁ keys ∷ e₂ keys ∷ rest keys
 
 -- what client 2 confirms
@@ -79,19 +79,19 @@ module _ (keys : List ℕ) (L : length keys ≡ 256) where
   log-is = run-is the-run
 
   -- ---- who tagged what
-  madeA : (older : List Event) → List·Memᴰ (e₁ keys) older → Tagged keys older 1 (invokeString oA 1)
+  madeA : (older : List Logged) → List·Memᴰ (e₁ keys) older → Tagged keys older 1 (invokeString oA 1)
   unfolding caller invokeTag tagBy
   madeA older m = record { event = e₁ keys; mem = m; by = refl; wrote = made-wrote (e₁ keys) 3 0 0 refl }
 
-  madeB : (older : List Event) → List·Memᴰ (e₃ keys) older → Tagged keys older 1 (invokeString oB 1)
+  madeB : (older : List Logged) → List·Memᴰ (e₃ keys) older → Tagged keys older 1 (invokeString oB 1)
   unfolding caller invokeTag tagBy repliedReplica
   madeB older m = record { event = e₃ keys; mem = m; by = refl; wrote = made-wrote (e₃ keys) 4 0 9 refl }
 
-  committedA : (older : List Event) → List·Memᴰ (e₂ keys) older → Tagged keys older 1 (commitString oA 1 2 v₂ 1)
+  committedA : (older : List Logged) → List·Memᴰ (e₂ keys) older → Tagged keys older 1 (commitString oA 1 2 v₂ 1)
   unfolding caller
   committedA older m = record { event = e₂ keys; mem = m; by = refl; wrote = reply-wrote (a₁ keys) (replyBytes (iB keys ∷ iA keys ∷ [])) 2 false v₂ (a₂-two keys L) }
 
-  committedB : (older : List Event) → List·Memᴰ (e₄ keys) older → Tagged keys older 1 (commitString oB 1 1 v₁ 1)
+  committedB : (older : List Logged) → List·Memᴰ (e₄ keys) older → Tagged keys older 1 (commitString oB 1 1 v₁ 1)
   unfolding caller repliedReplica
   committedB older m = record { event = e₄ keys; mem = m; by = refl; wrote = reply-wrote (a₃ keys) (replyBytes (iB keys ∷ [])) 1 false v₁ (a₄-one keys L) }
 
@@ -100,7 +100,7 @@ module _ (keys : List ℕ) (L : length keys ≡ 256) where
   not-yet T =
       let e : T .event ≡ e₁ keys = List·Memᴰ·eq-of-singleton (T .mem) in
       let w : invokeString oB 1 ++ tagBy keys 1 (invokeString oB 1) ≡ invokeString oA 1 ++ invokeTag keys oA 1
-      = sym (T .wrote) ∙ ap (λ (e : Event). e .step .wrote) e ∙ made-wrote (e₁ keys) 3 0 0 refl in
+      = sym (T .wrote) ∙ ap (λ (e : Logged). e .step .wrote) e ∙ made-wrote (e₁ keys) 3 0 0 refl in
       let s = front-same (invokeString oB 1) (invokeString oA 1) (tagBy keys 1 (invokeString oB 1)) (invokeTag keys oA 1) (tag-long keys 1 (invokeString oB 1)) (invoke-tag-length keys oA 1) w in
       let o : oB ≡ oA = invoke-string-fields oB oA 1 1 (omega arith) (omega arith) s .0 in
       let n : _≡_ {A = ℕ} 2 1 = ap (λ (e : Operation). e .count) o in
@@ -120,7 +120,7 @@ module _ (keys : List ℕ) (L : length keys ≡ 256) where
   is-second : {v : List ℕ} → v ≡ v₁ → List·Memᴰ (chainString v oA 2 1) (S₁ ∷ S₂ ∷ [])
   is-second q = List·Memᴰ·tail (List·Memᴰ·head (ap (λ (v : List ℕ). chainString v oA 2 1) q))
 
-  first : {e : Event} {l : List Event} → List·Memᴰ e (e ∷ l)
+  first : {e : Logged} {l : List Logged} → List·Memᴰ e (e ∷ l)
   first = List·Memᴰ·head refl
 
   good : Good (λ older x. Tagged keys older (x .author) (x .string) ⊎ (x ≡ itemTag (iB keys))) (S₁ ∷ S₂ ∷ []) [] (log keys)
@@ -164,7 +164,7 @@ pub record Early (keys : List ℕ) : Type 0 where
   -- no collision
   pub digests : (s t : List ℕ) → List·Memᴰ s (allOf strings (logOf keys calls)) → List·Memᴰ t (allOf strings (logOf keys calls)) → sha256 s ≡ sha256 t → s ≡ t
   -- a tag that had not been made before is that of client 1's second operation
-  pub others : (older newer : List Event) (e : Event) (x : Carried) → logOf keys calls ≡ older ++ (e ∷ newer) → List·Memᴰ x (tags e)
+  pub others : (older newer : List Logged) (e : Logged) (x : Carried) → logOf keys calls ≡ older ++ (e ∷ newer) → List·Memᴰ x (tags e)
       → Tagged keys older (x .author) (x .string) ⊎ (x ≡ itemTag (iB keys))
   -- which client 1 makes later
   pub later : Tagged keys (logOf keys calls) 1 (invokeString oB 1)

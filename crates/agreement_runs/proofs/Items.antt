@@ -21,7 +21,7 @@ use Rattle.client_reply_check.specs.ReplyChecks.{itemValue, itemChecks, lastOk,
 use Rattle.client_reply.specs.Reply.{chainAfter, sortItem, sortTo, isAborted, lastResponse}
 use Rattle.client_laws.proofs.Chain.{item-taken, values-stay}
 use Rattle.client_laws.proofs.Passes.{reply-passes}
-use Rattle.agreement.specs.WholeRuns.{messageOf, Event, itemStrings, strings, Carried, itemTag, itemTags, tags}
+use Rattle.agreement.specs.WholeRuns.{messageOf, Logged, itemStrings, strings, Carried, itemTag, itemTags, tags}
 use Rattle.agreement.proofs.Events.{taken-reply}
 use Rattle.agreement_runs.proofs.Shown as S
 use Rattle.agreement_runs.proofs.Shown.{Shows}
@@ -60,7 +60,7 @@ module _ (r : Replica) (i : Item) (f : ItemFits i) where
         item-taken r one 80 z (s .chain) 0 (omega arith) .link
         ∙ (λ t. linkValue (values-stay r one 80 z (s .chain) 0 (omega arith) t) (one-item t .op) (r .confirmed + 1) (one-item t .author))
 
-    pub one-shows : {P : List Event → Carried → Type 0} {Ss : List (List ℕ)} {older : List Event} (n : ℕ) (a : Bool) (x : Response)
+    pub one-shows : {P : List Logged → Carried → Type 0} {Ss : List (List ℕ)} {older : List Logged} (n : ℕ) (a : Bool) (x : Response)
         → List·Memᴰ (chainString (valueAt 0 (r .chain)) (i .op) (r .confirmed + 1) (i .author)) Ss → P older (itemTag i)
         → Shows P Ss older (replyEvent n r (i ∷ []) 1 a x)
     unfolding strings tags messageOf replyBytes itemStrings itemTags
@@ -138,7 +138,7 @@ module _ (r : Replica) (i j : Item) (f : ItemFits i) (g : ItemFits j) where
         item-taken r two 80 z (s .chain) 1 (omega arith) .link
         ∙ (λ t. linkValue (two-first t) (second-item t .op) (r .confirmed + 2) (second-item t .author))
 
-    pub two-shows : {P : List Event → Carried → Type 0} {Ss : List (List ℕ)} {older : List Event} (n : ℕ) (a : Bool) (x : Response)
+    pub two-shows : {P : List Logged → Carried → Type 0} {Ss : List (List ℕ)} {older : List Logged} (n : ℕ) (a : Bool) (x : Response)
         → List·Memᴰ (chainString (valueAt 0 (r .chain)) (i .op) (r .confirmed + 1) (i .author)) Ss
         → List·Memᴰ (chainString (linkValue (valueAt 0 (r .chain)) (i .op) (r .confirmed + 1) (i .author)) (j .op) (r .confirmed + 2) (j .author)) Ss
         → P older (itemTag i) → P older (itemTag j) → Shows P Ss older (replyEvent n r (i ∷ j ∷ []) 2 a x)

@@ -30,7 +30,7 @@ use Rattle.client_laws.proofs.Reply.{reply-sound}
 use Rattle.client_laws.proofs.Broadcast.{broadcast-sound}
 use Rattle.client_laws.proofs.Passes.{broadcast-passes}
 use Rattle.client.specs.Receive.{receiveStep}
-use Rattle.agreement.specs.WholeRuns.{Call, invoke, receive, stepOf, messageOf, start, Event, taken, broadcastString, strings, Carried, broadcastTag, tags}
+use Rattle.agreement.specs.WholeRuns.{Call, invoke, receive, stepOf, messageOf, start, Logged, taken, broadcastString, strings, Carried, broadcastTag, tags}
 use Rattle.agreement.proofs.Steps.{invokedStep}
 use Rattle.agreement_runs.proofs.Shown.{none, more, Shows}
 
@@ -60,20 +60,20 @@ pub sound-after : (r : Replica) (c : Call) {s : Step} → Sound r → stepOf r c
 sound-after r c S e = subst (λ (s : Step). Sound (s .after .replica)) e (step-sound r c S)
 
 -- ---- an operation made
-abbrev pub madeEvent : ℕ → Replica → ℕ → ℕ → ℕ → Event
+abbrev pub madeEvent : ℕ → Replica → ℕ → ℕ → ℕ → Logged
 madeEvent i r kind cell amount = record { call = invoke i kind cell amount 43; before = r; step = invokedStep r kind cell amount }
 
 pub made-step : (i : ℕ) (r : Replica) (kind cell amount : ℕ) → invokeNo r kind cell amount 43 ≡ 0 → stepOf r (invoke i kind cell amount 43) ≡ madeEvent i r kind cell amount .step
 unfolding stepOf
 made-step i r kind cell amount z = invoke-done r kind cell amount 43 z
 
-module _ {P : List Event → Carried → Type 0} {Ss : List (List ℕ)} {older : List Event} where
+module _ {P : List Logged → Carried → Type 0} {Ss : List (List ℕ)} {older : List Logged} where
   pub made-shows : {i : ℕ} {r : Replica} {kind cell amount : ℕ} → Shows P Ss older (madeEvent i r kind cell amount)
   unfolding strings tags taken
   made-shows = record { ss = []; strs = refl; known = none; xs = []; tgs = refl; each = none }
 
 -- ---- a broadcast confirmed
-abbrev pub confirmEvent : ℕ → Replica → Commit → Event
+abbrev pub confirmEvent : ℕ → Replica → Commit → Logged
 confirmEvent i r k =
     record {
       call = receive i (broadcastBytes k) 0;
@@ -128,7 +128,7 @@ module _ (r : Replica) (k : Commit) (f : CommitFits k) where
       ∙ ap (λ (a : After). record { after = a; wrote = [] }) (sym (broadcast-goes r (broadcastBytes k) z))
       ∙ ap (λ (k : Commit). record { after = record { replica = confirmedReplica r k; says = confirmed (k .seq) (k .status) }; wrote = [] }) (broadcast-read k f)
 
-  pub confirm-shows : {P : List Event → Carried → Type 0} {Ss : List (List ℕ)} {older : List Event} (i : ℕ)
+  pub confirm-shows : {P : List Logged → Carried → Type 0} {Ss : List (List ℕ)} {older : List Logged} (i : ℕ)
       → List·Memᴰ (broadcastString r k) Ss → P older (broadcastTag k) → Shows P Ss older (confirmEvent i r k)
   unfolding strings tags taken messageOf
   confirm-shows i s p =

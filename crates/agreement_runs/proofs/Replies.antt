@@ -20,7 +20,7 @@ use Rattle.client_reply_check.specs.ReplyChecks.{itemOk, itemChainOk, itemCheck
 use Rattle.client_reply.specs.Reply.{chainAfter, isAborted, lastResponse, saysOf, status, repliedReplica, commitMessage, replyDone, replyStep}
 use Rattle.client_laws.proofs.Reply.{reply-done}
 use Rattle.client.specs.Receive.{receiveStep}
-use Rattle.agreement.specs.WholeRuns.{receive, stepOf, Event, taken, tagBy}
+use Rattle.agreement.specs.WholeRuns.{receive, stepOf, Logged, taken, tagBy}
 
 -- an item with its author's tag
 abbrev pub itemBy : List ℕ → Operation → ℕ → Item
@@ -43,7 +43,7 @@ repliedStep r m n a x =
       wrote = commitMessage r (chainAfter r m) n a;
     }
 
-abbrev pub replyEvent : ℕ → Replica → List Item → ℕ → Bool → Response → Event
+abbrev pub replyEvent : ℕ → Replica → List Item → ℕ → Bool → Response → Logged
 replyEvent i r is n a x = record { call = receive i (replyBytes is) 80; before = r; step = repliedStep r (replyBytes is) n a x }
 
 pub reply-step : (i : ℕ) (r : Replica) (is : List Item) (n : ℕ) (a : Bool) (x : Response) → isReply (replyBytes is) ≡ true → replyNo r (replyBytes is) 80 ≡ 0

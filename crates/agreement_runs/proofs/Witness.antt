@@ -12,7 +12,7 @@ use Rattle.verify.specs.Verify.{invokeTag, linkValue}
 use Rattle.replica.specs.Outcome.{invoked, responded, aborted, confirmed}
 use Rattle.client_broadcast.specs.Broadcast.{confirmedReplica}
 use Rattle.client_reply.specs.Reply.{repliedReplica}
-use Rattle.agreement.specs.WholeRuns.{Call, invoke, receive, caller, messageOf, start, update, Event, says, logOf, allOf, taken, Confirmation, history, entryOf, tagBy, Tagged, LetOff}
+use Rattle.agreement.specs.WholeRuns.{Call, invoke, receive, caller, messageOf, start, update, Logged, says, logOf, allOf, taken, Confirmation, history, entryOf, tagBy, Tagged, LetOff}
 use Rattle.agreement.proofs.Events.{made-wrote}
 use Rattle.agreement_runs.proofs.Shown.{Good, end, next, not-off, Run, done, call, run-is}
 use Rattle.agreement_runs.proofs.Plays.{start-is, opens, madeEvent, made-shows, confirmEvent, confirm-shows}
@@ -33,19 +33,19 @@ calls keys =
     ∷ receive 2 (broadcastBytes (k₂ keys)) 0
     ∷ []
 
-abbrev e₁ : List ℕ → Event
+abbrev e₁ : List ℕ → Logged
 e₁ keys = madeEvent 1 (a₀ keys) 4 0 7
 
-abbrev e₂ : List ℕ → Event
+abbrev e₂ : List ℕ → Logged
 e₂ keys = replyEvent 1 (a₁ keys) (i₁ keys ∷ []) 1 false 1
 
-abbrev e₃ : List ℕ → Event
+abbrev e₃ : List ℕ → Logged
 e₃ keys = madeEvent 2 (b₀ keys) 3 0 0
 
-abbrev e₄ : List ℕ → Event
+abbrev e₄ : List ℕ → Logged
 e₄ keys = replyEvent 2 (b₁ keys) (i₁ keys ∷ i₂ keys ∷ []) 2 true 0
 
-abbrev log : List ℕ → List Event
+abbrev log : List ℕ → List Logged
 log keys =
     e₁ keys ∷ e₂ keys ∷ e₃ keys ∷ e₄ keys
     ∷ confirmEvent 1 (a₂ keys) (k₁ keys)
@@ -79,19 +79,19 @@ module _ (keys : List ℕ) (L : length keys ≡ 256) where
   log-is = run-is the-run
 
   -- ---- who tagged what
-  made₁ : (older : List Event) → List·Memᴰ (e₁ keys) older → Tagged keys older 1 (invokeString o₁ 1)
+  made₁ : (older : List Logged) → List·Memᴰ (e₁ keys) older → Tagged keys older 1 (invokeString o₁ 1)
   unfolding caller invokeTag tagBy
   made₁ older m = record { event = e₁ keys; mem = m; by = refl; wrote = made-wrote (e₁ keys) 4 0 7 refl }
 
-  made₂ : (older : List Event) → List·Memᴰ (e₃ keys) older → Tagged keys older 2 (invokeString o₂ 2)
+  made₂ : (older : List Logged) → List·Memᴰ (e₃ keys) older → Tagged keys older 2 (invokeString o₂ 2)
   unfolding caller invokeTag tagBy
   made₂ older m = record { event = e₃ keys; mem = m; by = refl; wrote = made-wrote (e₃ keys) 3 0 0 refl }
 
-  committed₁ : (older : List Event) → List·Memᴰ (e₂ keys) older → Tagged keys older 1 (commitString o₁ 1 1 v₁ 1)
+  committed₁ : (older : List Logged) → List·Memᴰ (e₂ keys) older → Tagged keys older 1 (commitString o₁ 1 1 v₁ 1)
   unfolding caller
   committed₁ older m = record { event = e₂ keys; mem = m; by = refl; wrote = reply-wrote (a₁ keys) (replyBytes (i₁ keys ∷ [])) 1 false v₁ (a₂-one keys L) }
 
-  committed₂ : (older : List Event) → List·Memᴰ (e₄ keys) older → Tagged keys older 2 (commitString o₂ 2 2 v₂ 0)
+  committed₂ : (older : List Logged) → List·Memᴰ (e₄ keys) older → Tagged keys older 2 (commitString o₂ 2 2 v₂ 0)
   unfolding caller
   committed₂ older m = record { event = e₄ keys; mem = m; by = refl; wrote = reply-wrote (b₁ keys) (replyBytes (i₁ keys ∷ i₂ keys ∷ [])) 2 true v₂ (b₂-two keys L) }
 
@@ -102,7 +102,7 @@ module _ (keys : List ℕ) (L : length keys ≡ 256) where
   is-second : {v : List ℕ} → v ≡ v₁ → List·Memᴰ (chainString v o₂ 2 2) (S₁ ∷ S₂ ∷ [])
   is-second q = List·Memᴰ·tail (List·Memᴰ·head (ap (λ (v : List ℕ). chainString v o₂ 2 2) q))
 
-  first : {e : Event} {l : List Event} → List·Memᴰ e (e ∷ l)
+  first : {e : Logged} {l : List Logged} → List·Memᴰ e (e ∷ l)
   first = List·Memᴰ·head refl
 
   good : Good (λ older x. Tagged keys older (x .author) (x .string)) (S₁ ∷ S₂ ∷ []) [] (log keys)

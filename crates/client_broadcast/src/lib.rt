@@ -8,7 +8,7 @@ ghost use Rattle.checks.specs.Checks.{firstNo};
 ghost use Rattle.replica.specs.Replica.{afterOf};
 ghost use Rattle.client_broadcast.specs.Broadcast.{commitOk, seqOk, nextValue, formChecks, contentChecks, proofChecks, broadcastNo, confirmedReplica, broadcastStep};
 use message::Commit;
-use replica::Done;
+use replica::Event;
 use replica::Outcome;
 use replica::Replica;
 use replica::Stepped;
@@ -138,7 +138,7 @@ pub fn broadcast(r: Replica, m: &[u8]) -> Stepped
     let after = confirmed_replica(r, k);
     Stepped {
         replica: after,
-        outcome: Outcome::Success(Done::Confirmed {
+        outcome: Outcome::Success(Event::Confirmed {
             seq: k.seq,
             status: k.status,
         }),

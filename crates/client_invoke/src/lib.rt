@@ -7,7 +7,7 @@ ghost use Rattle.replica.specs.Replica.{afterOf, over};
 ghost use Rattle.client_invoke.specs.Invoke.{openStep, invokeNo, invokedReplica, invokeMessage, invokeStep};
 use message::Item;
 use operation::Operation;
-use replica::Done;
+use replica::Event;
 use replica::Outcome;
 use replica::Refusal;
 use replica::Replica;
@@ -24,7 +24,7 @@ pub fn open(number: u8, keys: &[u8]) -> Stepped
             slices::copy_to(&mut k, 0, keys);
             Stepped {
                 replica: replica::fresh(number, k),
-                outcome: Outcome::Success(Done::Opened),
+                outcome: Outcome::Success(Event::Opened),
             }
         } else {
             replica::refused(replica::fresh(0, zeros), Refusal::Keys)
@@ -94,6 +94,6 @@ pub fn invoke(r: Replica, kind: u8, cell: u8, amount: u8, out: &mut [u8]) -> Ste
     let after = invoked_replica(r, e);
     Stepped {
         replica: after,
-        outcome: Outcome::Success(Done::Invoked(e.count)),
+        outcome: Outcome::Success(Event::Invoked(e.count)),
     }
 }

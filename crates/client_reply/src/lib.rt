@@ -4,7 +4,7 @@ ghost use Prim.Native.Nat.{_+_, _*_, _<_, _≤_};
 ghost use mathlib.Core.List.{_∷_, [], _++_};
 ghost use lib.ListN.{length, take, drop};
 ghost use Rattle.message.specs.Message.{replyCount};
-ghost use Rattle.replica.specs.Outcome.{doneTold};
+ghost use Rattle.replica.specs.Outcome.{eventTold};
 ghost use Rattle.replica.specs.Replica.{afterOf, over};
 ghost use Rattle.client_reply.specs.Reply.{chainItem, chainTo, sortItem, sortTo, isAborted, lastResponse, saysOf, status, heldStatus, larger, repliedReplica, commitMessage, replyStep};
 ghost use Rattle.client_reply.specs.Lists.{lists, Full};
@@ -12,7 +12,7 @@ use message::Commit;
 use message::Item;
 use operation::Operation;
 use operation::Response;
-use replica::Done;
+use replica::Event;
 use replica::Outcome;
 use replica::Replica;
 use replica::Stepped;
@@ -199,13 +199,13 @@ fn replied_replica(r: Replica, chain: [u8; 1056], n: u8, aborted: bool) -> Repli
     b
 }
 
-fn says(v: Verdict, seq: u32) -> Done
-    ensures { λ r. ⌜ doneTold r ≡ saysOf (v .aborted) (v .response) seq ⌝ }
+fn says(v: Verdict, seq: u32) -> Event
+    ensures { λ r. ⌜ eventTold r ≡ saysOf (v .aborted) (v .response) seq ⌝ }
 {
     if v.aborted {
-        Done::Aborted { seq }
+        Event::Aborted { seq }
     } else {
-        Done::Responded {
+        Event::Responded {
             seq,
             response: v.response,
         }

@@ -3,7 +3,7 @@
 use libc::STDIN_FILENO;
 use libc::STDOUT_FILENO;
 use operation::Operation;
-use replica::Done;
+use replica::Event;
 use replica::Halt;
 use replica::Outcome;
 use replica::Refusal;
@@ -109,23 +109,23 @@ fn halt_number(why: Halt) -> u64 {
     }
 }
 
-fn put_done(done: Done) {
+fn put_done(done: Event) {
     match done {
-        Done::Opened => put(b"opened"),
-        Done::Invoked(count) => {
+        Event::Opened => put(b"opened"),
+        Event::Invoked(count) => {
             put(b"made");
             put_number(count as u64);
         }
-        Done::Responded { seq, response } => {
+        Event::Responded { seq, response } => {
             put(b"answer");
             put_number(seq as u64);
             put_number(response as u64);
         }
-        Done::Aborted { seq } => {
+        Event::Aborted { seq } => {
             put(b"aside");
             put_number(seq as u64);
         }
-        Done::Confirmed { seq, status } => {
+        Event::Confirmed { seq, status } => {
             put(b"confirm");
             put_number(seq as u64);
             put_number(status as u64);

@@ -1,11 +1,11 @@
 // What a call says to a program in C or Rust: an outcome as four numbers. Definitions: specs/Said.antt.
 ghost use mathlib.Core.Path.{_≡_};
-ghost use Rattle.replica.specs.Outcome.{doneTold, told};
-ghost use Rattle.server.specs.Server.{doneTold as serverDoneTold, told as serverTold};
+ghost use Rattle.replica.specs.Outcome.{eventTold, told};
+ghost use Rattle.server.specs.Server.{eventTold as serverDoneTold, told as serverTold};
 ghost use Rattle.cop_said.specs.Said.{said, serverSaid, success, refusal, halt};
-use replica::Done;
+use replica::Event;
 use replica::Outcome;
-use server::ServerDone;
+use server::ServerEvent;
 use server::ServerOutcome;
 
 // `what` tells the outcomes apart. `number` is document 01's: 0 for a success, else a refusal's or a halt's. `first`
@@ -51,15 +51,15 @@ fn halt_said(number: u8) -> Said
     }
 }
 
-fn done_said(d: Done) -> Said
-    ensures { λ q. ⌜ q ≡ said (doneTold d) ⌝ }
+fn done_said(d: Event) -> Said
+    ensures { λ q. ⌜ q ≡ said (eventTold d) ⌝ }
 {
     match d {
-        Done::Opened => success_said(2, 0, 0),
-        Done::Invoked(count) => success_said(3, count, 0),
-        Done::Responded { seq, response } => success_said(4, seq, response as u32),
-        Done::Aborted { seq } => success_said(5, seq, 0),
-        Done::Confirmed { seq, status } => success_said(6, seq, status as u32),
+        Event::Opened => success_said(2, 0, 0),
+        Event::Invoked(count) => success_said(3, count, 0),
+        Event::Responded { seq, response } => success_said(4, seq, response as u32),
+        Event::Aborted { seq } => success_said(5, seq, 0),
+        Event::Confirmed { seq, status } => success_said(6, seq, status as u32),
     }
 }
 
@@ -74,12 +74,12 @@ pub fn client_said(o: Outcome) -> Said
     }
 }
 
-fn server_done_said(d: ServerDone) -> Said
+fn server_done_said(d: ServerEvent) -> Said
     ensures { λ q. ⌜ q ≡ serverSaid (serverDoneTold d) ⌝ }
 {
     match d {
-        ServerDone::Placed(seq) => success_said(7, seq, 0),
-        ServerDone::Broadcast(n) => success_said(8, n, 0),
+        ServerEvent::Placed(seq) => success_said(7, seq, 0),
+        ServerEvent::Broadcast(n) => success_said(8, n, 0),
     }
 }
 

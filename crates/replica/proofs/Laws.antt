@@ -8,7 +8,7 @@ use lib.ListN.{length, drop}
 use native.Mathlib.Omega.{arith}
 use borrow.Author.Tests.{leb-true, le-leb, lt-leb}
 use Rattle.slices.specs.Bytes.{all, isZero}
-pub use Rattle.checks.proofs.Laws.{and-yes, cond-cases, call-cases, Yes, Numbered, also-stays, first-stays, first-append, first-zero, all-yes, Among, first-among, Each, every-yes, every-each}
+use Rattle.checks.proofs.Laws.{and-yes, cond-cases, every-yes}
 use Rattle.operation.specs.Operation.{opOk}
 use Rattle.replica.specs.Outcome.{isHalt, isStop}
 use Rattle.replica.specs.Replica.{noCurrent, numbersOk, arraysOk, inRange, After, refuse, haltedAt, halt, stop}

@@ -9,7 +9,7 @@ use Rattle.replica.specs.declared.Refusal.{Refusal}
 use Rattle.replica.specs.declared.Refusal.the-variants as R
 use Rattle.replica.specs.declared.Halt.{Halt}
 use Rattle.replica.specs.declared.Halt.the-variants as H
-use Rattle.replica.specs.declared.Done.the-variants as D
+use Rattle.replica.specs.declared.Event.the-variants as D
 use Rattle.replica.specs.declared.Outcome.{Outcome}
 use Rattle.replica.specs.declared.Outcome.the-variants as O
 

@@ -7,8 +7,8 @@ use Rattle.replica.specs.declared.Refusal.{Refusal}
 use Rattle.replica.specs.declared.Refusal.the-variants as R
 use Rattle.replica.specs.declared.Halt.{Halt}
 use Rattle.replica.specs.declared.Halt.the-variants as H
-use Rattle.replica.specs.declared.Done.{Done}
-use Rattle.replica.specs.declared.Done.the-variants as D
+use Rattle.replica.specs.declared.Event.{Event}
+use Rattle.replica.specs.declared.Event.the-variants as D
 use Rattle.replica.specs.declared.Outcome.{Outcome}
 use Rattle.replica.specs.declared.Outcome.the-variants as O
 
@@ -50,14 +50,14 @@ abbrev pub isStop : ℕ → Bool
 isStop n = isHalt n || (leb 1 n && leb n 8)
 
 -- "A made entry brings its own count"; "An answer and "aside" bring their place; a confirmation brings place and status."
-abbrev pub doneTold : Done → Told
-doneTold D.Opened = opened
-doneTold (D.Invoked n) = invoked n
-doneTold (D.Responded p a) = responded p a
-doneTold (D.Aborted p) = aborted p
-doneTold (D.Confirmed p s) = confirmed p s
+abbrev pub eventTold : Event → Told
+eventTold D.Opened = opened
+eventTold (D.Invoked n) = invoked n
+eventTold (D.Responded p a) = responded p a
+eventTold (D.Aborted p) = aborted p
+eventTold (D.Confirmed p s) = confirmed p s
 
 abbrev pub told : Outcome → Told
-told (O.Success d) = doneTold d
+told (O.Success d) = eventTold d
 told (O.Refused r) = refused (refusalNo r)
 told (O.Halted h) = halted (haltNo h)

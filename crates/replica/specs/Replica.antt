@@ -5,7 +5,7 @@ use mathlib.Core.Bool.{Bool, true, cond, _&&_, _||_}
 use lib.ListN.{length, drop, replicate}
 use lib.Dec.{leb, eqb}
 use Rattle.slices.specs.Bytes.{all, isZero}
-pub use Rattle.checks.specs.Checks.{every, alsoNo, firstNo}
+use Rattle.checks.specs.Checks.{every}
 use Rattle.operation.specs.declared.Operation.{Operation}
 use Rattle.operation.specs.Operation.{opOk, noOp}
 use Rattle.replica.specs.declared.Replica.{Replica}

@@ -48,7 +48,7 @@ pub enum Halt {
 }
 
 // What a successful call brings.
-pub enum Done {
+pub enum Event {
     Opened,
     Invoked(u32),
     Responded { seq: u32, response: Response },
@@ -57,7 +57,7 @@ pub enum Done {
 }
 
 pub enum Outcome {
-    Success(Done),
+    Success(Event),
     Refused(Refusal),
     Halted(Halt),
 }

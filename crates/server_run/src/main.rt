@@ -4,7 +4,7 @@ use libc::STDIN_FILENO;
 use libc::STDOUT_FILENO;
 use server::Served;
 use server::Server;
-use server::ServerDone;
+use server::ServerEvent;
 use server::ServerOutcome;
 ghost use Prim.Native.Nat.{_≤_};
 ghost use mathlib.Core.Path.{_≡_};
@@ -79,11 +79,11 @@ fn put_hex(s: &[u8]) {
 fn put_outcome(outcome: ServerOutcome) {
     match outcome {
         ServerOutcome::Success(done) => match done {
-            ServerDone::Placed(seq) => {
+            ServerEvent::Placed(seq) => {
                 put(b"placed");
                 put_number(seq as u64);
             }
-            ServerDone::Broadcast(n) => {
+            ServerEvent::Broadcast(n) => {
                 put(b"passed");
                 put_number(n as u64);
             }

@@ -6,12 +6,12 @@ use mathlib.Core.Bool.{true, _||_}
 use lib.Dec.{leb}
 use lib.ListN.{getD}
 use native.Mathlib.Numerals.{add-one}
-use Rattle.replica.specs.declared.Done.{Done}
-use Rattle.replica.specs.declared.Done.the-variants as D
-use Rattle.replica.specs.Outcome.{doneTold}
+use Rattle.replica.specs.declared.Event.{Event}
+use Rattle.replica.specs.declared.Event.the-variants as D
+use Rattle.replica.specs.Outcome.{eventTold}
 use Rattle.trial_core.specs.Trial.{isSuccess, isFull}
 
-pub done-success : (d : Done) → true ≡ isSuccess (doneTold d)
+pub done-success : (d : Event) → true ≡ isSuccess (eventTold d)
 done-success D.Opened = refl
 done-success (D.Invoked n) = refl
 done-success (D.Responded p a) = refl

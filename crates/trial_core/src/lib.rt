@@ -8,11 +8,11 @@ ghost use Rattle.trial_text.specs.Line.{word};
 ghost use Rattle.replica.specs.Outcome as O;
 ghost use Rattle.server.specs.Server as S;
 ghost use Rattle.trial_core.specs.Trial.{toldWord, servedWord, isSuccess, isPlaced, broadcastCount, withReply, withRefused, withoutReply, withoutBroadcast, replyFirst, broadcastFirst, isFull, hasPlace};
-use replica::Done;
+use replica::Event;
 use replica::Outcome;
 use replica::Replica;
 use server::Server;
-use server::ServerDone;
+use server::ServerEvent;
 use server::ServerOutcome;
 use trial_text::Said;
 
@@ -36,18 +36,18 @@ pub struct Trial {
 
 // ---- outcomes
 
-fn done_said(done: Done) -> Said
-    ensures { λ r. ⌜ word r ≡ toldWord (O.doneTold done) ⌝ }
+fn done_said(done: Event) -> Said
+    ensures { λ r. ⌜ word r ≡ toldWord (O.eventTold done) ⌝ }
 {
     match done {
-        Done::Opened => Said::Empty,
-        Done::Invoked(_) => Said::Empty,
-        Done::Responded { seq, response } => Said::Answer {
+        Event::Opened => Said::Empty,
+        Event::Invoked(_) => Said::Empty,
+        Event::Responded { seq, response } => Said::Answer {
             place: seq,
             answer: response,
         },
-        Done::Aborted { seq } => Said::Aside(seq),
-        Done::Confirmed { seq, status } => Said::Confirm { place: seq, status },
+        Event::Aborted { seq } => Said::Aside(seq),
+        Event::Confirmed { seq, status } => Said::Confirm { place: seq, status },
     }
 }
 
@@ -73,12 +73,12 @@ pub fn is_success(outcome: Outcome) -> bool
     }
 }
 
-fn served_done(done: ServerDone) -> Said
-    ensures { λ r. ⌜ word r ≡ servedWord (S.doneTold done) ⌝ }
+fn served_done(done: ServerEvent) -> Said
+    ensures { λ r. ⌜ word r ≡ servedWord (S.eventTold done) ⌝ }
 {
     match done {
-        ServerDone::Placed(p) => Said::Placed(p),
-        ServerDone::Broadcast(_) => Said::Empty,
+        ServerEvent::Placed(p) => Said::Placed(p),
+        ServerEvent::Broadcast(_) => Said::Empty,
     }
 }
 
@@ -92,12 +92,12 @@ pub fn served_said(outcome: ServerOutcome) -> Said
     }
 }
 
-fn done_placed(done: ServerDone) -> bool
-    ensures { λ r. ⌜ r ≡ isPlaced (S.doneTold done) ⌝ }
+fn done_placed(done: ServerEvent) -> bool
+    ensures { λ r. ⌜ r ≡ isPlaced (S.eventTold done) ⌝ }
 {
     match done {
-        ServerDone::Placed(_) => true,
-        ServerDone::Broadcast(_) => false,
+        ServerEvent::Placed(_) => true,
+        ServerEvent::Broadcast(_) => false,
     }
 }
 
@@ -111,12 +111,12 @@ pub fn is_placed(outcome: ServerOutcome) -> bool
     }
 }
 
-fn done_count(done: ServerDone) -> u32
-    ensures { λ r. ⌜ r ≡ broadcastCount (S.doneTold done) ⌝ }
+fn done_count(done: ServerEvent) -> u32
+    ensures { λ r. ⌜ r ≡ broadcastCount (S.eventTold done) ⌝ }
 {
     match done {
-        ServerDone::Placed(_) => 0,
-        ServerDone::Broadcast(n) => n,
+        ServerEvent::Placed(_) => 0,
+        ServerEvent::Broadcast(n) => n,
     }
 }
 

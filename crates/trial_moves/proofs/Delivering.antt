@@ -10,7 +10,7 @@ use borrow.Author.Tests.{leb-true}
 use Rattle.trial_text.specs.Line.{Word, empty}
 use Rattle.replica.specs.declared.Replica.{Replica}
 use Rattle.replica.specs.Replica.{After, Step, over}
-use Rattle.replica.proofs.Laws.{and-yes}
+use Rattle.checks.proofs.Laws.{and-yes}
 use Rattle.client.specs.Receive.{receiveStep}
 use Rattle.server.specs.declared.Server.{Server}
 use Rattle.server.specs.Server.{ServerTold, serverStep}

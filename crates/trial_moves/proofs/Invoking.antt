@@ -9,7 +9,7 @@ use Rattle.slices.specs.Bytes.{put}
 use Rattle.trial_text.specs.Line.{Word}
 use Rattle.replica.specs.declared.Replica.{Replica}
 use Rattle.replica.specs.Replica.{After, Step, over, stopStep}
-use Rattle.replica.proofs.Laws.{call-cases}
+use Rattle.checks.proofs.Laws.{call-cases}
 use Rattle.client_invoke.specs.Invoke.{invokeNo, invokeStep}
 use Rattle.server.specs.declared.Server.{Server}
 use Rattle.trial_core.specs.declared.Lines.{Lines}
