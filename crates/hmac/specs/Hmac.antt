@@ -7,7 +7,7 @@ use lib.ListN.{length, replicate}
 use lib.Dec.{leb}
 use Rattle.sha256.specs.Sha256.{sha256, allowed}
 use Rattle.hmac.specs.declared.Tagged.{Tagged}
-use Rattle.hmac.specs.declared.Tagged.the-variants.{Event, TooLong}
+use Rattle.hmac.specs.declared.Tagged.the-variants.{Done, TooLong}
 
 -- step (1): zeros appended up to a block
 unfoldable pub filled : List ℕ → List ℕ

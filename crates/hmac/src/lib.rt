@@ -6,7 +6,7 @@ ghost use Rattle.hmac.specs.Hmac.{filled, blockKey, xored, hmac, taggedN
 
 // What a tag call says: the tag was written, or the key or the input is over 65,535 bytes (9).
 pub enum Tagged {
-    Event,
+    Done,
     TooLong,
 }
 

@@ -9,7 +9,7 @@ use Rattle.sha256_core.specs.Words.{_⊞_, σ0, σ1}
 use Rattle.sha256_core.specs.Round.{roundAt, addState}
 use Rattle.slices.specs.Bytes.{bigEndian, wordAt}
 use Rattle.sha256.specs.declared.Digested.{Digested}
-use Rattle.sha256.specs.declared.Digested.the-variants.{Event, TooLong}
+use Rattle.sha256.specs.declared.Digested.the-variants.{Done, TooLong}
 
 -- a message is a list of bytes
 abbrev pub isByte : ℕ → Bool

@@ -11,7 +11,7 @@ ghost use Rattle.sha256.specs.Inner.{roundsFrom, countOf, restFrom};
 
 // What a digest call says: the digest was written, or the input is over 65,535 bytes (9).
 pub enum Digested {
-    Event,
+    Done,
     TooLong,
 }
 
