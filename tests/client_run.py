@@ -1,28 +1,23 @@
 """What the program client_run does, over cop.py: `python3 tests/client_run.py < crates/client_run/stdin`.
 
-The program keeps four books, in slots 0 to 3, all zero at first. Its input is a list of records, each a head
-of ten bytes and then a body:
+The program keeps four books, in slots 0 to 3, all zero at first. Its input has at most 1,048,576 bytes, a line a call:
 
-    0     command: N note, O open, I make an entry, R take a message, P poke (set one field of a book)
-    1     the slot of the book that the call gets
-    2     the slot that the book goes to afterwards
-    3     O: van number; I: kind; P: field, its place in FIELDS
-    4     I: cell
-    5     I: amount
-    6, 7  I and R: out bytes lent, at most 128; P: index in the field
-    8, 9  length of the body, at most 4,096
-    body  N: the line to print; O: keys; R: message; P: value, in four bytes
+    # TEXT                                   a note: printed as it is
+    open TO VAN KEYS                         opens a book, which goes to slot TO
+    invoke FROM TO KIND CELL AMOUNT ROOM     makes an entry
+    receive FROM TO ROOM MESSAGE             takes a message
+    change FROM TO AT BYTES FIELD            sets bytes of a book, from AT on; FIELD, for the reader, is their field and index
 
-A note is printed as it is. Any other record gives one line: the outcome's word and numbers (for a poke, the
-word alone), the halt mark afterwards, the Adler-32 sum (RFC 1950) of the whole book in eight hexadecimal digits,
-and, if any byte of the out buffer changed, the buffer in hexadecimal up to the last byte that did. The buffer
-has 128 bytes of value 0xaa, of which the first are lent.
+A call gets the book in slot FROM, and the book afterwards goes to slot TO. KEYS, MESSAGE (both at most 4,096 bytes) and BYTES
+are in hexadecimal, `-` for no bytes; other numbers are decimal.
 
-The sum is over the book's 1,382 bytes: each field in the order of FIELDS, numbers in four bytes.
+Each call gives one line: the outcome's word and numbers (for a change, the word alone), and the first eight bytes of the
+SHA-256 digest of the whole book; for an invoke and a receive also those of the out buffer. That has 128 bytes of value
+0xaa, of which the first ROOM are lent. A book has 1,382 bytes: each field in the order of FIELDS, numbers in four bytes.
 """
 
+import hashlib
 import sys
-import zlib
 
 import cop
 from cop import ASIDE, DONE, Book
@@ -100,18 +95,35 @@ def book_of(data):
     return book if image(book) == data else None
 
 
-def line(outcome, data, out=b""):
-    words = [*outcome, data[-1], "%08x" % zlib.adler32(data)]
-    shown = out.rstrip(b"\xaa")
-    if shown:
-        words.append(shown.hex())
+def digest(data):
+    return hashlib.sha256(data).digest()[:8].hex()
+
+
+def line(outcome, data, out=None):
+    """The line that a call gives, by outcome, book, and the out bytes lent to it."""
+    words = [*outcome, digest(data)]
+    if out is not None:
+        words.append(digest(out.ljust(ROOM, b"\xaa")))
     return " ".join(map(str, words))
 
 
-def poked(data, field, index, value):
-    name, width, _ = FIELDS[field]
-    at = START[name] + width * index
-    return data[:at] + value.to_bytes(width, "big") + data[at + width :]
+def hexadecimal(data):
+    return data.hex() or "-"
+
+
+def bytes_of(word):
+    return b"" if word == "-" else bytes.fromhex(word)
+
+
+def place(name, index):
+    """Where an element of a field stands in a book."""
+    _, width, elements = FIELDS[NAMES.index(name)]
+    assert index < elements
+    return START[name] + width * index
+
+
+def changed(data, at, value):
+    return data[:at] + value + data[at + len(value) :]
 
 
 def call(data, room, step):
@@ -124,29 +136,33 @@ def call(data, room, step):
     return image(after), outcome, out
 
 
+def run(slots, words):
+    """A line's call on the slots: outcome and out bytes, None where there are none."""
+    out = None
+    if words[0] == "open":
+        to, van, keys = words[1:]
+        book, outcome = cop.open_book(int(van), bytes_of(keys))
+        data = image(book)
+    elif words[0] == "invoke":
+        slot, to, kind, cell, amount, room = map(int, words[1:])
+        data, outcome, out = call(slots[slot], room, lambda book, out: cop.make(book, kind, cell, amount, out))
+    elif words[0] == "receive":
+        slot, to, room, message = words[1:]
+        data, outcome, out = call(slots[int(slot)], int(room), lambda book, out: cop.take(book, bytes_of(message), out))
+    else:
+        assert words[0] == "change"
+        slot, to, at, value, field = words[1:]
+        name, index = field.rstrip("]").split("[") if field.endswith("]") else (field, 0)
+        assert int(at) == place(name, int(index))
+        data, outcome = changed(slots[int(slot)], int(at), bytes_of(value)), ("changed",)
+    slots[int(to)] = data
+    return outcome, data, out
+
+
 def main():
-    read = sys.stdin.buffer.read
     slots = [image(cop.NO_BOOK)] * 4
-    while len(head := read(10)) == 10:
-        command, slot, to, a, b, c = head[:6]
-        room = int.from_bytes(head[6:8], "big")
-        body = read(int.from_bytes(head[8:10], "big"))
-        data, out = slots[slot], b""
-        if command == ord("N"):
-            print(body.decode())
-            continue
-        if command == ord("O"):
-            book, outcome = cop.open_book(a, body)
-            data = image(book)
-        elif command == ord("I"):
-            data, outcome, out = call(data, room, lambda book, out: cop.make(book, a, b, c, out))
-        elif command == ord("R"):
-            data, outcome, out = call(data, room, lambda book, out: cop.take(book, body, out))
-        else:
-            assert command == ord("P")
-            data, outcome = poked(data, a, room, int.from_bytes(body, "big")), ("poked",)
-        slots[to] = data
-        print(line(outcome, data, out))
+    for text in sys.stdin.read().splitlines():
+        print(text if text.startswith("#") else line(*run(slots, text.split(" "))))
 
 
 if __name__ == "__main__":

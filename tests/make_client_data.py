@@ -5,17 +5,18 @@ import pathlib
 import sys
 from collections import deque
 
+import client_run
 import cop
-from client_run import FIELDS, NAMES, ROOM, book_of, call, image, line, poked
+from client_run import FIELDS, NAMES, ROOM, book_of, call, hexadecimal, image, line, place
 from cop import ADD, ASIDE, DONE, READ, SET, TAKE, Entry
 from draws import Draws
 
 
 class Script:
-    """The records, and the lines that they give. Each call gives the outcome and the bytes written."""
+    """The lines of input, and those that they give. Each call gives the outcome and the bytes written."""
 
     def __init__(self):
-        self.records = []
+        self.calls = []
         self.lines = []
         self.slots = [image(cop.NO_BOOK)] * 4
         self.outcomes = set()
@@ -23,22 +24,20 @@ class Script:
     def book(self, slot):
         return book_of(self.slots[slot])
 
-    def record(self, command, slot, to, a=0, b=0, c=0, room=0, body=b""):
-        assert len(body) <= 4096
-        head = command.encode() + bytes([slot, to, a, b, c]) + room.to_bytes(2, "big") + len(body).to_bytes(2, "big")
-        self.records.append(head + body)
+    def asked(self, *words):
+        self.calls.append(" ".join(map(str, words)))
 
-    def told(self, to, data, outcome, out=b""):
+    def told(self, to, data, outcome, out=None):
         self.slots[to] = data
         self.lines.append(line(outcome, data, out))
         self.outcomes.add(outcome[0] if outcome[0] not in ("no", "halt") else outcome)
 
     def note(self, text):
-        self.record("N", 0, 0, body=b"# " + text.encode())
+        self.asked("#", text)
         self.lines.append("# " + text)
 
     def open(self, to, van, keys):
-        self.record("O", 0, to, van, body=keys)
+        self.asked("open", to, van, hexadecimal(keys))
         book, outcome = cop.open_book(van, keys)
         self.told(to, image(book), outcome)
         return outcome
@@ -51,24 +50,26 @@ class Script:
 
     def make(self, slot, kind, cell, amount, room=43, to=None):
         to = slot if to is None else to
-        self.record("I", slot, to, kind, cell, amount, room)
+        self.asked("invoke", slot, to, kind, cell, amount, room)
         return self.call(slot, to, room, lambda book, out: cop.make(book, kind, cell, amount, out))
 
     def take(self, slot, message, room=80, to=None):
+        assert len(message) <= 4096
         to = slot if to is None else to
-        self.record("R", slot, to, room=room, body=message)
+        self.asked("receive", slot, to, room, hexadecimal(message))
         return self.call(slot, to, room, lambda book, out: cop.take(book, message, out))
 
-    def poke(self, slot, name, value, index=0, to=None):
+    def change(self, slot, name, value, index=0, to=None):
         to = slot if to is None else to
         _, width, elements = FIELDS[NAMES.index(name)]
-        assert index < elements and value < 256**width
-        self.record("P", slot, to, NAMES.index(name), room=index, body=cop.number(value))
-        self.told(to, poked(self.slots[slot], NAMES.index(name), index, value), ("poked",))
+        at, value = place(name, index), value.to_bytes(width, "big")
+        field = name if elements == 1 else "%s[%d]" % (name, index)
+        self.asked("change", slot, to, at, hexadecimal(value), field)
+        self.told(to, client_run.changed(self.slots[slot], at, value), ("changed",))
 
     def copy(self, slot, to):
-        """A poke that changes nothing."""
-        self.poke(slot, "number", self.slots[slot][0], to=to)
+        """A change that changes nothing."""
+        self.change(slot, "number", self.slots[slot][0], to=to)
 
 
 KEYS = bytes((7 * i + 3) % 256 for i in range(256))  # all 256 bytes, so that no two keys share one
@@ -211,7 +212,7 @@ def conflicts(s):
         (250, [(ADD, 0, 6), (TAKE, 0, 6)], [(READ, 0, 0)], "aside"),
     ):
         s.open(0, 1, KEYS)
-        s.poke(0, "cells", value)
+        s.change(0, "cells", value)
         items = [item(Entry(k, *other), 2) for k, other in enumerate(others, 1)]
         for count, (kind, cell, amount) in enumerate(own, 1):
             s.make(0, kind, cell, amount)
@@ -255,12 +256,12 @@ def refusals_of_making(s):
     for kind, cell, amount in ((ADD, 0, 0), (ADD, 15, 255), (TAKE, 15, 255), (READ, 15, 0), (SET, 15, 255)):
         s.make(0, kind, cell, amount, to=1)
     s.note("Own count at its limit: 5 before 6 before 7")
-    s.poke(0, "count", cop.LIMIT, to=1)
+    s.change(0, "count", cop.LIMIT, to=1)
     s.make(1, 0, 0, 0)
     s.make(1, ADD, 0, 1)
     s.make(1, ADD, 0, 1, room=0)
     s.note("The last own count, made and answered")
-    s.poke(0, "count", cop.LIMIT - 1, to=1)
+    s.change(0, "count", cop.LIMIT - 1, to=1)
     s.make(1, ADD, 0, 1)
     s.take(1, cop.re_message([item(Entry(cop.LIMIT, ADD, 0, 1), 4)]))
     s.make(1, ADD, 0, 1)
@@ -440,7 +441,7 @@ def damaged_reply(s):
         ("hand.cell", 1, 0),
         ("hand.amount", 5, 0),
     ):
-        s.poke(0, name, value, index, to=3)
+        s.change(0, name, value, index, to=3)
         s.take(3, good)
     s.note("No entry in hand")
     s.take(0, good, to=3)
@@ -501,31 +502,31 @@ def ranges(s):
         ("halt", 26, 0),
         ("halt", 255, 0),
     ):
-        s.poke(0, name, value, index, to=3)
+        s.change(0, name, value, index, to=3)
         s.make(3, ADD, 0, 1, to=2)
         s.take(3, b"RE\0", to=2)
     s.note("Without an entry in hand: a part of one, places past the limit, a halt mark and a field")
     s.open(0, 1, KEYS)
     for name in ("hand.count", "hand.kind", "hand.cell", "hand.amount", "hand.last"):
-        s.poke(0, name, 1, to=3)
+        s.change(0, name, 1, to=3)
         s.make(3, ADD, 0, 1, to=2)
         s.take(3, b"", to=2)
-    s.poke(0, "c", cop.LIMIT, to=3)
+    s.change(0, "c", cop.LIMIT, to=3)
     s.make(3, ADD, 0, 1, to=2)
-    s.poke(3, "held", 1)
+    s.change(3, "held", 1)
     s.make(3, ADD, 0, 1, to=2)
-    s.poke(3, "c", cop.LIMIT - 1)
+    s.change(3, "c", cop.LIMIT - 1)
     s.make(3, ADD, 0, 1, to=2)
-    s.poke(3, "held", 32)
+    s.change(3, "held", 32)
     s.make(3, ADD, 0, 1, to=2)
-    s.poke(3, "c", cop.LIMIT - 32)
+    s.change(3, "c", cop.LIMIT - 32)
     s.make(3, ADD, 0, 1, to=2)
-    s.poke(3, "held", 33)
+    s.change(3, "held", 33)
     s.make(3, ADD, 0, 1, to=2)
-    s.poke(0, "halt", 25, to=3)
+    s.change(0, "halt", 25, to=3)
     s.make(3, 0, 0, 0, room=0)
     s.take(3, b"")
-    s.poke(3, "number", 0)
+    s.change(3, "number", 0)
     s.make(3, 0, 0, 0, room=0)
     s.take(3, b"")
 
@@ -601,7 +602,7 @@ def damaged_broadcast(s):
         ):
             s.take(slot, b"BR" + string[2:] + tag, to=3)
         for at in (31, 32, 63, 64):
-            s.poke(slot, "keys", KEYS[at] ^ 4, at, to=3)
+            s.change(slot, "keys", KEYS[at] ^ 4, at, to=3)
             s.take(3, good)
         s.note("The same BR again, and the next")
         s.take(slot, good, to=3)
@@ -631,27 +632,27 @@ def own_statuses(s):
     for statuses in ((1, 1, 1), (1, 2, 1), (2, 0, 1), (1, 0, 2), (0, 0, 0), (2, 2, 2)):
         s.copy(0, 3)
         for k, status in enumerate(statuses):
-            s.poke(3, "statuses", status, k)
+            s.change(3, "statuses", status, k)
         s.take(3, cop.re_message(listed))
     s.note("A done status at another's place, by hand: that entry is no own one")
     s.open(2, 1, KEYS)
-    s.poke(2, "cells", 7)
+    s.change(2, "cells", 7)
     s.make(2, ADD, 1, 1)
     strange = [item(Entry(1, TAKE, 0, 4), 2), item(Entry(1, ADD, 1, 1), 1), item(Entry(2, TAKE, 0, 2), 1)]
     s.take(2, cop.re_message(strange[:2]))
-    s.poke(2, "statuses", 1, 0)
+    s.change(2, "statuses", 1, 0)
     s.make(2, TAKE, 0, 2)
     assert s.take(2, cop.re_message(strange))[0] == ("answer", 3, 1)
     s.note("Fewer places than held: an earlier entry in hand again, by hand")
     s.take(0, cop.re_message(listed), to=2)
     for name, value in (("hand.count", 1), ("hand.kind", SET), ("hand.cell", 0), ("hand.amount", 5)):
-        s.poke(2, name, value)
+        s.change(2, name, value)
     s.take(2, cop.re_message(listed[:1]), to=3)
     s.take(2, cop.re_message(listed[:2]), to=3)
     s.take(2, cop.re_message(listed[:3]), to=3)
-    s.poke(2, "statuses", 1, 1)
+    s.change(2, "statuses", 1, 1)
     s.take(2, cop.re_message(listed[:2]), to=3)
-    s.poke(2, "cells", 200)
+    s.change(2, "cells", 200)
     s.take(2, cop.re_message(listed[:2]), to=3)
 
 
@@ -661,7 +662,7 @@ def limits(s):
     s.make(0, ADD, 0, 1)
     own, other = item(Entry(1, ADD, 0, 1), 5), item(Entry(1, ADD, 1, 1), 6)
     for c in (cop.LIMIT - 2, cop.LIMIT - 1, cop.LIMIT):
-        s.poke(0, "c", c, to=1)
+        s.change(0, "c", c, to=1)
         s.take(1, cop.re_message([own]), to=3)
         s.take(1, cop.re_message([other, own]), to=3)
         s.take(1, cop.re_message([other, other, own]), to=3)
@@ -670,7 +671,7 @@ def limits(s):
         for place in (c - 1, c, c + 1, c + 2):
             s.take(1, br(other.entry, 6, place, cop.chain_value(bytes(32), other.entry, place, 6)), to=3)
     s.note("The last place confirmed, and a van there")
-    s.poke(0, "c", cop.LIMIT - 1, to=1)
+    s.change(0, "c", cop.LIMIT - 1, to=1)
     _, commit = s.take(1, cop.re_message([own]))
     s.take(1, cop.br_message(commit))
     s.make(1, ADD, 0, 1)
@@ -719,7 +720,7 @@ def drawn_lists(s):
         s.open(0, van, KEYS)
         cells = range(1 + draws.below(4))
         for cell in cells:
-            s.poke(0, "cells", draws.one_of((0, 1, 2, 7, 100, 250, 254, 255)), cell)
+            s.change(0, "cells", draws.one_of((0, 1, 2, 7, 100, 250, 254, 255)), cell)
         amounts = draws.one_of(((0, 1, 2), (0, 1, 3, 100), (1, 2, 5, 250, 255), (0, 7)))
         kinds = draws.one_of(((ADD, TAKE), (ADD, TAKE, READ, SET), (ADD, ADD, TAKE, READ), (SET, TAKE)))
         items = []
@@ -781,14 +782,16 @@ def main():
     script = Script()
     for section in SECTIONS:
         section(script)
-    wanted = {"opened", "made", "answer", "aside", "confirm", "poked"}
+    wanted = {"opened", "made", "answer", "aside", "confirm", "changed"}
     wanted |= {("no", n) for n in range(1, 9)} | {("halt", n) for n in range(20, 26)}
     assert script.outcomes == wanted, script.outcomes ^ wanted
     here = pathlib.Path(sys.argv[1] if len(sys.argv) > 1 else pathlib.Path(__file__).parents[1] / "crates/client_run")
     here.mkdir(parents=True, exist_ok=True)
-    (here / "stdin").write_bytes(b"".join(script.records))
+    text = "\n".join(script.calls) + "\n"
+    assert len(text) <= 1048576
+    (here / "stdin").write_text(text)
     (here / "stdout").write_text("\n".join(script.lines) + "\n")
-    print("%d records, %d bytes of input" % (len(script.records), sum(map(len, script.records))))
+    print("%d lines, %d bytes of input" % (len(script.calls), len(text)))
 
 
 if __name__ == "__main__":

@@ -1,14 +1,9 @@
 -- A number within a list's length counts elements at its front.
-use Prim.Native.Nat.{ℕ, _+_, _≤_}
-use mathlib.Core.Path.{sym, subst}
-use mathlib.Core.List.{List, _++_}
-use native.Mathlib.Omega.{arith}
-use lib.ListN.{length, length-append}
+use Prim.Native.Nat.{ℕ, _≤_}
+use mathlib.Core.Path.{_≡_, sym}
+use mathlib.Core.List.{List}
+use lib.ListN.{length, take}
 use lib.Seq.{length-take-le}
-use Rattle.io.specs.Counts.{Counts}
 
-pub counts : (n : ℕ) (xs : List ℕ) → n ≤ length xs → Counts n xs
-counts n xs h = (h, sym (length-take-le n xs h))
-
-pub counts-front : (n : ℕ) (xs ys : List ℕ) → n ≤ length xs → Counts n (xs ++ ys)
-counts-front n xs ys h = counts n (xs ++ ys) (subst (λ (k : ℕ). n ≤ k) (sym (length-append xs ys)) (omega (arith, h)))
+pub counts : (n : ℕ) (xs : List ℕ) → n ≤ length xs → n ≡ length (take n xs)
+counts n xs h = sym (length-take-le n xs h)

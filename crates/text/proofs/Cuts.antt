@@ -32,6 +32,9 @@ unfolding placeOf
 place-most x [] = omega arith
 place-most x (c ∷ s) = either (eqb c x) (λ e. rw e (omega arith)) (λ e. rw e (omega (arith, place-most x s)))
 
+pub find-most : (x : ℕ) (s : List ℕ) (i : ℕ) → i ≤ length s → i + placeOf x (drop i s) ≤ length s
+find-most x s i h = omega (arith, h, place-most x (drop i s), length-drop i s)
+
 -- the pieces before i are ws
 pub record Cut (x : ℕ) (s : List ℕ) (ws : List (List ℕ)) (i : ℕ) : Type 0 where
   pub within : i ≤ length s
