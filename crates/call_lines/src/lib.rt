@@ -54,9 +54,22 @@ pub fn end_line() {
 }
 
 // A space and a number.
-pub fn put_number(n: u64) {
+fn put_number(n: u64) {
     put(b" ");
     io::print_decimal(STDOUT_FILENO, n);
+}
+
+// A word and a number.
+pub fn put_one(word: &[u8], n: u64) {
+    put(word);
+    put_number(n);
+}
+
+// A word and two numbers.
+pub fn put_two(word: &[u8], m: u64, n: u64) {
+    put(word);
+    put_number(m);
+    put_number(n);
 }
 
 // A space and the first eight bytes of the digest.

@@ -28,173 +28,136 @@ fn slot(line: &[u8], k: usize) -> usize
 fn put_event(event: Event) {
     match event {
         Event::Opened => call_lines::put(b"opened"),
-        Event::Invoked(count) => {
-            call_lines::put(b"made");
-            call_lines::put_number(count as u64);
-        }
-        Event::Responded { seq, response } => {
-            call_lines::put(b"answer");
-            call_lines::put_number(seq as u64);
-            call_lines::put_number(response as u64);
-        }
-        Event::Aborted { seq } => {
-            call_lines::put(b"aside");
-            call_lines::put_number(seq as u64);
-        }
-        Event::Confirmed { seq, status } => {
-            call_lines::put(b"confirm");
-            call_lines::put_number(seq as u64);
-            call_lines::put_number(status as u64);
-        }
+        Event::Invoked(count) => call_lines::put_one(b"made", count as u64),
+        Event::Responded { seq, response } => call_lines::put_two(
+            b"answer",
+            seq as u64,
+            response as u64,
+        ),
+        Event::Aborted { seq } => call_lines::put_one(b"aside", seq as u64),
+        Event::Confirmed { seq, status } => call_lines::put_two(
+            b"confirm",
+            seq as u64,
+            status as u64,
+        ),
     }
 }
 
 fn put_outcome(outcome: Outcome) {
     match outcome {
         Outcome::Success(event) => put_event(event),
-        Outcome::Refused(why) => {
-            call_lines::put(b"no");
-            call_lines::put_number(replica::refusal_number(why) as u64);
-        }
-        Outcome::Halted(why) => {
-            call_lines::put(b"halt");
-            call_lines::put_number(replica::halt_number(why) as u64);
-        }
+        Outcome::Refused(why) => call_lines::put_one(b"no", replica::refusal_number(why) as u64),
+        Outcome::Halted(why) => call_lines::put_one(b"halt", replica::halt_number(why) as u64),
     }
-}
-
-fn put_state(states: &[u8], at: usize)
-    requires { ⌜ at + 1382 ≤ length (now states) ⌝ }
-{
-    let e = at + 1382;
-    call_lines::put_digest(&states[at..e]);
 }
 
 // A replica in 1,382 bytes: each field in its order, numbers in four bytes
 
-fn keys_at(states: &[u8], at: usize) -> [u8; 256]
-    requires { ⌜ at + 256 ≤ length (now states) ⌝ }
+fn keys_of(state: &[u8]) -> [u8; 256]
+    requires { ⌜ 1382 ≤ length (now state) ⌝ }
 {
     let mut t = [0u8; 256];
-    let e = at + 256;
-    slices::copy_to(&mut t, 0, &states[at..e]);
+    slices::copy_to(&mut t, 0, &state[1..257]);
     t
 }
 
-fn chain_at(states: &[u8], at: usize) -> [u8; 1056]
-    requires { ⌜ at + 1056 ≤ length (now states) ⌝ }
+fn chain_of(state: &[u8]) -> [u8; 1056]
+    requires { ⌜ 1382 ≤ length (now state) ⌝ }
 {
     let mut t = [0u8; 1056];
-    let e = at + 1056;
-    slices::copy_to(&mut t, 0, &states[at..e]);
+    slices::copy_to(&mut t, 0, &state[277..1333]);
     t
 }
 
-fn cells_at(states: &[u8], at: usize) -> [u8; 16]
-    requires { ⌜ at + 16 ≤ length (now states) ⌝ }
+fn cells_of(state: &[u8]) -> [u8; 16]
+    requires { ⌜ 1382 ≤ length (now state) ⌝ }
 {
     let mut t = [0u8; 16];
-    let e = at + 16;
-    slices::copy_to(&mut t, 0, &states[at..e]);
+    slices::copy_to(&mut t, 0, &state[1365..1381]);
     t
 }
 
-fn replica_at(states: &[u8], at: usize) -> Replica
-    requires { ⌜ at + 1382 ≤ length (now states) ⌝ }
+fn replica_of(state: &[u8]) -> Replica
+    requires { ⌜ 1382 ≤ length (now state) ⌝ }
 {
-    let keys = keys_at(states, at + 1);
-    let count = slices::word_at(states, at + 257);
-    let current = operation::read_op(states, at + 261);
-    let confirmed = slices::word_at(states, at + 269);
-    let held = slices::word_at(states, at + 273);
-    let chain = chain_at(states, at + 277);
-    let statuses = slices::part(states, at + 1333);
-    let cells = cells_at(states, at + 1365);
+    let keys = keys_of(state);
+    let current = operation::read_op(state, 261);
+    let chain = chain_of(state);
+    let statuses = slices::part(state, 1333);
+    let cells = cells_of(state);
     Replica {
-        number: states[at],
+        number: state[0],
         keys,
-        count,
+        count: slices::word_at(state, 257),
         current,
-        confirmed,
-        held,
+        confirmed: slices::word_at(state, 269),
+        held: slices::word_at(state, 273),
         chain,
         statuses,
         cells,
-        halt: states[at + 1381],
+        halt: state[1381],
     }
 }
 
-fn copy_part(states: &mut [u8], at: usize, part: &[u8]) {
-    if at <= states.len() {
-        if part.len() <= states.len() - at {
-            slices::copy_to(states, at, part);
+fn copy_part(state: &mut [u8], at: usize, part: &[u8]) {
+    if at <= state.len() {
+        if part.len() <= state.len() - at {
+            slices::copy_to(state, at, part);
         }
     }
 }
 
-fn copy_byte(states: &mut [u8], at: usize, n: u8) {
+fn copy_byte(state: &mut [u8], at: usize, n: u8) {
     let bytes = [n];
-    copy_part(states, at, &bytes);
+    copy_part(state, at, &bytes);
 }
 
-fn copy_word(states: &mut [u8], at: usize, n: u32) {
+fn copy_word(state: &mut [u8], at: usize, n: u32) {
     let bytes = slices::word_bytes(n);
-    copy_part(states, at, &bytes);
+    copy_part(state, at, &bytes);
 }
 
-fn copy_keys(states: &mut [u8], at: usize, keys: [u8; 256]) {
-    copy_part(states, at, &keys);
+fn copy_keys(state: &mut [u8], keys: [u8; 256]) {
+    copy_part(state, 1, &keys);
 }
 
-fn copy_chain(states: &mut [u8], at: usize, chain: [u8; 1056]) {
-    copy_part(states, at, &chain);
-}
-
-fn copy_statuses(states: &mut [u8], at: usize, statuses: [u8; 32]) {
-    copy_part(states, at, &statuses);
-}
-
-fn copy_cells(states: &mut [u8], at: usize, cells: [u8; 16]) {
-    copy_part(states, at, &cells);
-}
-
-fn store_numbers(states: &mut [u8], at: usize, r: Replica)
-    requires { ⌜ at + 1382 ≤ length (now states) ⌝ }
-{
-    copy_byte(states, at, r.number);
-    copy_word(states, at + 257, r.count);
-    copy_word(states, at + 269, r.confirmed);
-    copy_word(states, at + 273, r.held);
-    copy_byte(states, at + 1381, r.halt);
-}
-
-fn store_current(states: &mut [u8], at: usize, current: Operation)
-    requires { ⌜ at + 1382 ≤ length (now states) ⌝ }
-{
+fn copy_current(state: &mut [u8], current: Operation) {
     let bytes = operation::op_bytes(current);
-    copy_part(states, at + 261, &bytes);
+    copy_part(state, 261, &bytes);
 }
 
-fn store_arrays(states: &mut [u8], at: usize, r: Replica)
-    requires { ⌜ at + 1382 ≤ length (now states) ⌝ }
-{
+fn copy_chain(state: &mut [u8], chain: [u8; 1056]) {
+    copy_part(state, 277, &chain);
+}
+
+fn copy_statuses(state: &mut [u8], statuses: [u8; 32]) {
+    copy_part(state, 1333, &statuses);
+}
+
+fn copy_cells(state: &mut [u8], cells: [u8; 16]) {
+    copy_part(state, 1365, &cells);
+}
+
+fn store_numbers(state: &mut [u8], r: Replica) {
+    copy_byte(state, 0, r.number);
+    copy_word(state, 257, r.count);
+    copy_word(state, 269, r.confirmed);
+    copy_word(state, 273, r.held);
+    copy_byte(state, 1381, r.halt);
+}
+
+fn store(state: &mut [u8], r: Replica) {
     let keys = r.keys;
+    let current = r.current;
     let chain = r.chain;
     let statuses = r.statuses;
     let cells = r.cells;
-    copy_keys(states, at + 1, keys);
-    copy_chain(states, at + 277, chain);
-    copy_statuses(states, at + 1333, statuses);
-    copy_cells(states, at + 1365, cells);
-}
-
-fn store(states: &mut [u8], at: usize, r: Replica)
-    requires { ⌜ at + 1382 ≤ length (now states) ⌝ }
-{
-    let current = r.current;
-    store_numbers(states, at, r);
-    store_current(states, at, current);
-    store_arrays(states, at, r);
+    store_numbers(state, r);
+    copy_keys(state, keys);
+    copy_current(state, current);
+    copy_chain(state, chain);
+    copy_statuses(state, statuses);
+    copy_cells(state, cells);
 }
 
 // Calls
@@ -245,14 +208,27 @@ fn buffer() -> [u8; 128]
     [0xaa; 128]
 }
 
-fn after(states: &mut [u8], to: usize, stepped: Stepped)
-    requires { ⌜ to + 1382 ≤ length (now states) ⌝ }
+fn empty() -> [u8; 1382]
+    ensures { λ r. ⌜ 1382 ≡ length r ⌝ }
 {
+    [0; 1382]
+}
+
+// Puts a replica among the states, and prints its digest.
+fn keep(states: &mut [u8], to: usize, state: &[u8])
+    requires { ⌜ length (now state) ≤ 65535 ⌝ }
+{
+    copy_part(states, to, state);
+    call_lines::put_digest(state);
+}
+
+fn after(states: &mut [u8], to: usize, stepped: Stepped) {
     let replica = stepped.replica;
     let outcome = stepped.outcome;
-    store(states, to, replica);
     put_outcome(outcome);
-    put_state(states, to);
+    let mut state = empty();
+    store(&mut state, replica);
+    keep(states, to, &state);
 }
 
 fn call(states: &mut [u8], line: &[u8], letter: u8)
@@ -260,7 +236,8 @@ fn call(states: &mut [u8], line: &[u8], letter: u8)
 {
     let from = slot(line, 1);
     let to = slot(line, 2);
-    let r = replica_at(states, from);
+    let state = state_at(states, from);
+    let r = replica_of(&state);
     let mut out = buffer();
     let stepped = step_in(r, line, letter, &mut out);
     after(states, to, stepped);
@@ -274,7 +251,6 @@ fn set_bytes(state: &mut [u8], line: &[u8])
     call_lines::bytes_at(line, 4, &mut state[at..]);
 }
 
-// Sets bytes of a replica.
 fn change(states: &mut [u8], line: &[u8])
     requires { ⌜ 5528 ≤ length (now states) ⌝ }
 {
@@ -282,9 +258,8 @@ fn change(states: &mut [u8], line: &[u8])
     let to = slot(line, 2);
     let mut state = state_at(states, from);
     set_bytes(&mut state, line);
-    copy_part(states, to, &state);
     call_lines::put(b"changed");
-    put_state(states, to);
+    keep(states, to, &state);
 }
 
 fn state_at(states: &[u8], at: usize) -> [u8; 1382]
@@ -297,9 +272,7 @@ fn state_at(states: &[u8], at: usize) -> [u8; 1382]
     t
 }
 
-fn opened(states: &mut [u8], line: &[u8])
-    requires { ⌜ 5528 ≤ length (now states) ⌝ }
-{
+fn opened(states: &mut [u8], line: &[u8]) {
     let to = slot(line, 1);
     let stepped = open(line);
     after(states, to, stepped);
