@@ -1,8 +1,8 @@
-"""The linked library against cop.py, on drawn calls: `python3 tests/differential.py [CALLS] [SEED]`, after tests/differential.sh
-has linked the library. Every outcome, every field of the state and every byte of the out buffer is compared.
+"""The linked library against cop.py, on drawn calls: `tests/differential.sh [CALLS] [SEED]` links the library and runs
+this. Every outcome, every field of the state and every byte of the out buffer is compared.
 
-It prints how often each outcome was seen, by call and kind of run, and fails at the first difference, at a broken claim of
-demand 3, or where one of document 01's numbers was not seen. The same CALLS and SEED give the same calls on every machine.
+It prints how often each outcome was seen, by call and kind of run, and fails at the first difference, at a broken claim
+of demand 3, or where one of document 01's numbers was not seen. Equal CALLS and SEED give equal calls everywhere.
 """
 
 import multiprocessing
@@ -10,14 +10,15 @@ import pathlib
 import sys
 import time
 
-import drawn_runs
-import drawn_states
-from drawn_runs import Drawn
+from drawn_runs import Drawn, honest
+from drawn_states import states
+from hostile_runs import hostile, with_keys
 from linked import Library
 
 PATH = str(pathlib.Path(__file__).resolve().parent.parent / "target" / "tests" / "libcop.so")
-KINDS = ("honest", "hostile", "with keys", "states")
-ORDER = (0, 1, 1, 2, 1, 3, 0, 1)  # kinds of run, over and over
+RUNS = {"honest": honest, "hostile": hostile, "with keys": with_keys, "states": states}
+KINDS = tuple(RUNS)
+ORDER = (0, 1, 3, 2, 1, 3, 0, 1)  # kinds of run, over and over
 NUMBERS = (*range(1, 10), *range(20, 26), *range(30, 37))
 SUCCESSES = ("opened", "made", "answer", "aside", "confirm", "fresh", "placed", "passed", "digest", "tag")
 
@@ -30,20 +31,18 @@ def one_run(task):
     draws = Drawn(f"{seed} {i}")
     facts = {"runs": 1}
     try:
-        if kind == "states":
-            drawn_states.states(library, f"{seed} {i}", 30)
-        else:
-            steps = 300 + draws.below(1500)
-            run = getattr(drawn_runs, kind.replace(" ", "_"))(library, draws, steps)
+        run = RUNS[kind](library, draws)
+        if run:
             facts["halts"] = run.halts
             if run.let_off:
                 facts["let off"] = 1
             else:
-                facts["claims"] = 1
-                facts["common"] = run.check_claims()
+                facts["claims checked"] = 1
+                facts["entries common to two vans"] = run.check_claims()
                 facts["forked"] = forked(run)
     except Exception as wrong:
-        return kind, library.calls, library.seen, facts, f"run {i} of seed {seed!r} ({kind}), call {library.calls + 1}: {wrong!r}"
+        where = f"run {i} of seed {seed!r} ({kind}), call {library.calls + 1}"
+        return kind, library.calls, library.seen, facts, f"{where}: {wrong!r}"
     return kind, library.calls, library.seen, facts, None
 
 

@@ -1,9 +1,8 @@
-"""Single calls on drawn states: garbage in every field, states in range with one field drawn anew, and states in range with a
-history that drawn messages fit."""
+"""Single calls on drawn states: garbage in every field, states in range with one byte drawn anew, and states in range
+with a history that drawn messages fit."""
 
 import cop
 from cop import LIMIT, Book, Entry, Item, Relay
-from drawn_runs import Drawn
 from linked import REPLICA, SERVER, State, book_of, relay_of, replica_fields, server_fields
 
 NEAR = (0, 1, 5, LIMIT - 40, LIMIT - 2, LIMIT - 1, LIMIT)
@@ -86,7 +85,7 @@ def damaged(d, m):
 
 
 def garbage(d, layout, fields):
-    """The bytes of a state: drawn in whole, or a state in range, half the time with a byte drawn anew; drawn bytes in the padding."""
+    """A state of drawn bytes, or one in range, half the time with a byte drawn anew. Padding is drawn."""
     if d.chance(12):
         return d.bytes(layout.size) if d.chance(2) else bytes([d.below(256)]) * layout.size
     data = bytearray(layout.pack(*fields))
@@ -95,11 +94,13 @@ def garbage(d, layout, fields):
         at = d.below(layout.size)
         data[at] = d.below(256)
     elif layout is REPLICA and what <= 2:
-        at = d.one_of((0, 260, 263, 264, 267, 268, 269, 270, 271, 272, 275, 276, 279, 280 + d.below(1056), 1336 + d.below(32), 1384))
+        numbers = (0, 260, 263, 264, 267, 268, 269, 270, 271, 272, 275, 276, 279, 1384)
+        at = d.one_of((*numbers, 280 + d.below(1056), 1336 + d.below(32)))
         data[at] = d.one_of((0, 1, 2, 3, 8, 9, 16, 19, 26, 32, 33, 255))
     elif layout is SERVER and what <= 2:
         slot = d.below(32)
-        at = d.one_of((0, 3, 4, 7, 8 + d.below(32), 40 + 41 * slot + d.below(9), 1352 + slot, 1384 + d.below(1024), 2408 + d.below(1024)))
+        numbers = (0, 3, 4, 7, 8 + d.below(32), 40 + 41 * slot + d.below(9), 1352 + slot)
+        at = d.one_of((*numbers, 1384 + d.below(1024), 2408 + d.below(1024)))
         data[at] = d.one_of((0, 1, 2, 3, 8, 9, 16, 32, 33, 255))
     if layout is REPLICA:
         data[257:260], data[1385:1388] = d.bytes(3), d.bytes(3)
@@ -112,8 +113,8 @@ def client_call(library, d):
     state = State(REPLICA, data, book_of(REPLICA.unpack(data)))
     for _ in range(3):
         if d.chance(3):
-            kind, cell, amount = (d.below(256), d.below(256), d.below(256)) if d.chance(4) else d.entry(1, range(16), range(256))[1:4]
-            library.invoke(state, kind, cell, amount, d.one_of((43, 44, 100, d.below(43))))
+            made = tuple(d.bytes(3)) if d.chance(4) else d.entry(1, range(16), range(256))[1:4]
+            library.invoke(state, *made, d.one_of((43, 44, 100, d.below(43))))
         else:
             library.receive(state, case.message(), d.one_of((80, 80, 81, 200, d.below(80))))
 
@@ -142,11 +143,13 @@ def server_call(library, d):
             entry = Entry(relay.last[author - 1] + 1 + d.one_of((0, 0, 0, 1)), *d.entry(1, all_cells, amounts)[1:4])
             m = cop.in_message(keys, entry, author)
         line = author if d.below(10) else d.below(256)
-        library.serve(state, line, damaged(d, m), d.one_of((2560, 2560, 2561, 3 + 41 * (waiting + 1), 80, d.below(2560))))
+        room = d.one_of((2560, 2560, 2561, 3 + 41 * (waiting + 1), 80, d.below(2560)))
+        library.serve(state, line, damaged(d, m), room)
 
 
 def other_calls(library, d):
-    library.open(d.below(256) if d.chance(2) else 1 + d.below(8), d.bytes(d.one_of((256, 256, 0, 255, 257, d.below(400)))))
+    number = d.below(256) if d.chance(2) else 1 + d.below(8)
+    library.open(number, d.bytes(d.one_of((256, 256, 0, 255, 257, d.below(400)))))
     long = d.one_of((65535, 65536, 65537, 65535 - d.below(200)))
     most = d.one_of((60, 130, 1000))
     library.digest(bytes([d.below(256)]) * long if d.chance(40) else d.bytes(d.below(most)))
@@ -154,9 +157,8 @@ def other_calls(library, d):
     library.tag(key, bytes([d.below(256)]) * long if d.chance(40) else d.bytes(d.below(most)))
 
 
-def states(library, seed, cases):
-    d = Drawn(seed)
-    for _ in range(cases):
+def states(library, d):
+    for _ in range(50):
         client_call(library, d)
         client_call(library, d)
         server_call(library, d)

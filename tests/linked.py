@@ -1,7 +1,7 @@
 """The linked library beside cop.py: each call is made on both, and outcome, state and bytes are compared.
 
-States of the library stand in memory with the layout of include/cop.h; cop.py's are turned into the same fields. A state and
-an out buffer have canary bytes past them; a message stands right before a page that cannot be read.
+States of the library stand in memory with the layout of include/cop.h; cop.py's are turned into the same fields. A
+state and an out buffer have canary bytes past them; a message stands right before a page that cannot be read.
 """
 
 import ctypes
@@ -36,8 +36,8 @@ def replica_fields(book):
 
 
 def book_of(fields):
-    """The book with these fields, or None where none has them: an unused slot that is not zero, a status that is none of the
-    three, more than 32 places. That is part of question 8."""
+    """The book with these fields, or None where none has them: an unused slot that is not zero, a status that is
+    none of the three, more than 32 places. That is part of question 8."""
     number, keys, count, *hand, c, held, chain, statuses, cells, halt = fields
     if held > 32 or max(statuses) > 2:
         return None
@@ -127,8 +127,8 @@ class Guarded:
         self.memory[at : self.SIZE] = message
         return self.start + at
 
-    def holds(self, message):
-        return self.memory[self.SIZE - len(message) : self.SIZE] == message
+    def end(self, n):
+        return self.memory[self.SIZE - n : self.SIZE]
 
 
 class State:
@@ -140,7 +140,7 @@ class State:
         self.model = model
 
     def data(self):
-        return self.memory.raw[: self.layout.size]
+        return self.memory[: self.layout.size]
 
     def copy(self):
         return State(self.layout, self.data(), self.model)
@@ -201,60 +201,50 @@ class Library:
         ctypes.memmove(self.out, lent + CANARY, room + len(CANARY))
         return lent
 
-    def settle(self, call, state, fields_of, before, after, outcome, expected_out, said, message):
-        """Compares what the library left with what cop.py says."""
-        s = said
+    def both(self, call, state, fields_of, step, room, message, *arguments):
+        """A call on both: cop.py's, `step`, on the model (8 where there is none), and the library's on its state."""
+        lent = self.lend(room)
+        fields = state.layout.unpack_from(state.memory)
+        after, outcome, out = (None, cop.no(8), lent) if state.model is None else step(state.model, lent)
+        if after is not None and after is not state.model:
+            fields = fields_of(after)
+        function = getattr(self.lib, "cop_" + call)
+        s = function(ctypes.addressof(state.memory), *arguments, ctypes.addressof(self.out), room)
         self.same(call + " outcome", (s.what, s.number, s.first, s.second), said_of(outcome))
-        raw = state.memory.raw
-        size = state.layout.size
-        expected = before if after is None else fields_of(after)
-        self.same(call + " state", state.layout.unpack_from(raw), expected)
-        self.same(call + " bytes past the state", raw[size : size + len(CANARY)], CANARY)
-        self.same(call + " out bytes", self.out.raw[: len(expected_out) + len(CANARY)], expected_out + CANARY)
-        if not self.message.holds(message):
-            raise Differ(call + " changed its message")
+        self.same(call + " state", state.layout.unpack_from(state.memory), fields)
+        self.same(call + " bytes past the state", state.memory[state.layout.size :], CANARY)
+        self.same(call + " out bytes", self.out[: room + len(CANARY)], out + CANARY)
+        self.same(call + " message", self.message.end(len(message)), message)
         state.model = after
         self.count(call, outcome)
-        return outcome, expected_out
+        return outcome, out
 
     def invoke(self, state, kind, cell, amount, room):
-        lent = self.lend(room)
-        before = state.layout.unpack_from(state.memory.raw) if state.model is None else None
-        if state.model is None:
-            after, outcome, out = None, cop.no(8), lent
-        else:
-            after, outcome, out = cop.make(state.model, kind, cell, amount, lent)
-        said = self.lib.cop_invoke(ctypes.addressof(state.memory), kind, cell, amount, ctypes.addressof(self.out), room)
-        return self.settle("invoke", state, replica_fields, before, after, outcome, out, said, b"")
+        def step(book, out):
+            return cop.make(book, kind, cell, amount, out)
+
+        return self.both("invoke", state, replica_fields, step, room, b"", kind, cell, amount)
 
     def receive(self, state, message, room):
-        lent = self.lend(room)
-        before = state.layout.unpack_from(state.memory.raw) if state.model is None else None
-        if state.model is None:
-            after, outcome, out = None, cop.no(8), lent
-        else:
-            after, outcome, out = cop.take(state.model, message, lent)
+        def step(book, out):
+            return cop.take(book, message, out)
+
         m = self.message.put(message)
-        said = self.lib.cop_receive(ctypes.addressof(state.memory), m, len(message), ctypes.addressof(self.out), room)
-        return self.settle("receive", state, replica_fields, before, after, outcome, out, said, message)
+        return self.both("receive", state, replica_fields, step, room, message, m, len(message))
 
     def serve(self, state, line, message, room):
-        lent = self.lend(room)
-        before = state.layout.unpack_from(state.memory.raw) if state.model is None else None
-        if state.model is None:
-            after, outcome, out = None, cop.no(8), lent
-        else:
-            after, outcome, out = cop.relay_take(state.model, line, message, lent)
+        def step(relay, out):
+            return cop.relay_take(relay, line, message, out)
+
         m = self.message.put(message)
-        said = self.lib.cop_serve(ctypes.addressof(state.memory), line, m, len(message), ctypes.addressof(self.out), room)
-        return self.settle("serve", state, server_fields, before, after, outcome, out, said, message)
+        return self.both("serve", state, server_fields, step, room, message, line, m, len(message))
 
     def hashed(self, call, number, value, strings):
         """A digest or a tag: 32 bytes, or 9."""
         expected = 9 if any(len(string) > 65535 for string in strings) else 0
         self.same(call + " outcome", number, expected)
         lent = FILL[self.calls % ROOM_MOST :][:32]
-        self.same(call + " out bytes", self.out.raw[: 32 + len(CANARY)], (lent if expected else value()) + CANARY)
+        self.same(call + " out bytes", self.out[: 32 + len(CANARY)], (lent if expected else value()) + CANARY)
         self.count(call, cop.no(9) if expected else (call,))
 
     def digest(self, string):
