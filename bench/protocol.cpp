@@ -104,29 +104,32 @@ template <class Fs, class F> static cop_said together(const std::string &name, F
     return first;
 }
 
+// Processor time of this thread, in nanoseconds.
+static double worked() {
+    timespec t;
+    clock_gettime(CLOCK_THREAD_CPUTIME_ID, &t);
+    return t.tv_sec * 1e9 + t.tv_nsec;
+}
 static double now() { return std::chrono::duration<double, std::nano>(std::chrono::steady_clock::now().time_since_epoch()).count(); }
 
-static const char *met_or(double ratio, bool &met) {
-    if (ratio > 1.0) met = false;
-    return ratio > 1.0 ? "  MISSED" : "";
-}
-static bool met = true;
-
-static void print(const std::string &name, const double t[4]) {
-    printf("%-38s %9.0f %9.0f %6.2f %9.0f %6.2f %9.0f %6.2f%s\n", name.c_str(), t[0], t[1], t[0] / t[1], t[2], t[0] / t[2], t[3], t[0] / t[3],
-           met_or(t[0] / t[1], met));
+static int rows, missed;
+static void print(const std::string &name, const double t[4], bool bar = true) {
+    bool miss = bar && t[0] > t[1];
+    rows += bar, missed += miss;
+    printf("%-34s %8.0f %8.0f %6.2f %8.0f %6.2f %8.0f %6.2f%s\n", name.c_str(), t[0], t[1], t[0] / t[1], t[2], t[0] / t[2], t[3], t[0] / t[3],
+           miss ? "  missed" : "");
 }
 
 // Times call(state, k) for k below `calls` on copies of each of the four. In turn, so that a busy moment of the machine falls on all;
-// the best of `turns` counts.
-template <class Fs, class F> static void row(const std::string &name, const Fs &four, int copies, int calls, F call, int turns = 1500) {
+// the best of 1,500 turns counts.
+template <class Fs, class F> static void row(const std::string &name, const Fs &four, int copies, int calls, F call, bool bar = true) {
     Fs tried = four;
     for (int k = 0; k < calls; ++k) {
         cop_said s = together(name, tried, [&](auto &state) { return call(state, k); });
         if (s.what <= COP_HALTED) differ(name + ": no success");
     }
     double best[4] = {1e18, 1e18, 1e18, 1e18};
-    for (int r = 0; r < turns; ++r) {
+    for (int r = 0; r < 1500; ++r) {
         int i = 0;
         Fs from = four;
         from.each([&](auto &state) {
@@ -141,7 +144,7 @@ template <class Fs, class F> static void row(const std::string &name, const Fs &
             best[i] = std::min(best[i], t), ++i;
         });
     }
-    print(name, best);
+    print(name, best, bar);
 }
 
 // ---- messages
@@ -285,31 +288,44 @@ static void replay() {
         }
         int i = 0;
         cs.each([&](auto &c) {
-            double start = now();
+            double start = worked();
             for (uint32_t k = 0; k < part; ++k) {
                 cop_said s = c.receive(&brs[80 * k], 80, out, 0);
                 if (s.what != COP_CONFIRMED || s.first != from + k + 1) differ("replay");
             }
-            t[i++] += now() - start;
+            t[i++] += worked() - start;
         });
         if (from == 9 * part) early = kilobytes();
     }
-    cs.each([&](auto &c) {
-        uint8_t co[COP_CO], *p = co;
-        (void)c, (void)p;
-    });
     if (memcmp(cs.a.r.cells, cs.b.cells, 16) != 0 || memcmp(cs.a.r.chain, cs.b.chain, 32) != 0) differ("replay's end");
     for (double &x : t) x /= COP_COUNT_MOST;
     print("replay of 1,000,000, each", t);
-    printf("replay in all: proved %.2f s, C++ %.2f s; memory at its peak after 10,000 operations %ld KiB, after 1,000,000 %ld KiB\n", t[0] / 1e3,
-           t[1] / 1e3, early, kilobytes());
-    if (kilobytes() - early > 64) met = false;
+    long late = kilobytes();
+    printf("replay in all: proved %.2f s, C++ %.2f s\n", t[0] / 1e3, t[1] / 1e3);
+    printf("most memory so far: after 10,000 operations %ld KiB, after 1,000,000 %ld KiB%s\n", early, late, late > early ? "  missed" : "");
+    rows++, missed += late > early;
+}
+
+// The digest of a chain string and the tag of a CO string alone, as far as each of the four has them.
+struct ProvedHash {
+    cop_said digest() { return {COP_OPENED, cop_digest(keys, 45, out), 0, 0}; }
+    cop_said tag() { return {COP_OPENED, cop_tag(keys, 32, keys, 48, out), 0, 0}; }
+};
+template <class H> struct Hash {
+    H *h;
+    cop_said digest() { return h->digest(keys, 45, out), success(COP_OPENED, 0); }
+    cop_said tag() { return h->tag(1, keys, 48, out), success(COP_OPENED, 0); }
+};
+static void hashes() {
+    Four<ProvedHash, Hash<Contexts>, Hash<Contexts>, Hash<Kept>> four = {{}, {contexts}, {contexts}, {kept}};
+    row("(digest of 45 bytes alone)", four, 16, 1, [](auto &h, int) { return h.digest(); }, false);
+    row("(tag of 48 bytes alone)", four, 16, 1, [](auto &h, int) { return h.tag(); }, false);
 }
 
 int main() {
     for (int i = 0; i < COP_KEYS; ++i) keys[i] = (uint8_t)(i * 7 + 3);
     contexts = new Contexts, kept = new Kept;
-    printf("%-38s %9s %9s %6s %9s %6s %9s %6s\n", "nanoseconds a call", "proved", "C++", "ratio", "no 8", "ratio", "kept", "ratio");
+    printf("%-34s %8s %8s %6s %8s %6s %8s %6s\n", "nanoseconds a call", "proved", "C++", "ratio", "no 8", "ratio", "kept", "ratio");
     broadcasts();
     reply_row("RE of 1", 1, false);
     reply_row("RE of 8, no conflict", 8, false);
@@ -320,6 +336,7 @@ int main() {
     server_rows();
     rounds();
     replay();
-    printf("%s\n", met ? "bar met" : "BAR MISSED");
-    return met ? 0 : 1;
+    hashes();
+    printf("bar: %d of %d rows missed\n", missed, rows);
+    return missed ? 1 : 0;
 }

@@ -7,7 +7,7 @@ for tool in rt gcc g++; do command -v "$tool" > /dev/null || { echo "missing: $t
 rt staticlib cop_c | tail -n 1
 mkdir -p target/bench
 g++ -std=c++17 -O2 -Wall -Wno-deprecated-declarations bench/protocol.cpp target/staticlib/libcop_c.a -lcrypto -o target/bench/protocol
-echo "== OpenSSL as it is, with the processor's SHA instructions where it has them (no bar)"
+echo "== OpenSSL as it is, with the processor's SHA instructions where it has them (not under the bar)"
 target/bench/protocol || true
-echo "== OpenSSL without SHA instructions (the bar: no ratio of the first column of ratios above 1.00)"
+echo "== OpenSSL without SHA instructions (the bar: no ratio to the C++ above 1.00)"
 OPENSSL_ia32cap=":~0x20000000" target/bench/protocol
