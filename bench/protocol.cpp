@@ -5,6 +5,7 @@
 #include <chrono>
 #include <cstdio>
 #include <cstdlib>
+#include <deque>
 #include <fstream>
 #include <openssl/evp.h>
 #include <openssl/hmac.h>
@@ -171,6 +172,49 @@ static void next_broadcast(uint8_t *m, uint8_t *value, uint32_t seq, int author,
     m[0] = 'B', m[1] = 'R';
 }
 
+// ---- the four agree on drawn runs of three clients, with damaged messages among them
+
+static std::mt19937 drawn(2);
+static Message damaged(Message m) {
+    if (drawn() % 20 == 0) m[drawn() % m.size()] ^= 1 << drawn() % 8;
+    if (drawn() % 60 == 0) m.resize(drawn() % (m.size() + 1));
+    return m;
+}
+static void agree() {
+    unsigned calls = 0, said[COP_BROADCAST + 1] = {};
+    for (int run = 0; run < 300; ++run) {
+        Servers server;
+        Clients cs[3] = {clients(1), clients(2), clients(3)};
+        std::deque<Message> up[3], down[3];
+        for (int step = 0; step < 300; ++step) {
+            int v = drawn() % 3, what = drawn() % 4;
+            size_t room = drawn() % 20 ? sizeof out : drawn() % 100;
+            cop_said s;
+            if (what == 0) {
+                int kind = drawn() % 30 ? 1 + drawn() % 4 : drawn() % 256, cell = drawn() % 3, amount = kind == COP_READ ? 0 : drawn() % 90;
+                s = together("invoke", cs[v], [&](auto &c) { return c.invoke(kind, cell, amount, out, room); });
+                if (s.what == COP_INVOKED) up[v].emplace_back(out, out + COP_IN);
+            } else if (what == 1 && !up[v].empty()) {
+                Message m = damaged(up[v].front());
+                s = together("serve", server, [&](auto &x) { return x.serve(v + 1, m.data(), m.size(), out, room); });
+                if (s.what == COP_PLACED) down[v].emplace_back(out, out + 3 + 41 * out[2]);
+                for (uint32_t k = 0; s.what == COP_BROADCAST && k < s.first; ++k)
+                    for (auto &line : down) line.emplace_back(out + 80 * k, out + 80 * k + 80);
+                if (s.what != COP_REFUSED) up[v].pop_front();
+            } else if (what >= 2 && !down[v].empty()) {
+                Message m = drawn() % 10 ? down[v].front() : damaged(down[v].front());
+                s = together("receive", cs[v], [&](auto &c) { return c.receive(m.data(), m.size(), out, room); });
+                if (s.what == COP_RESPONDED || s.what == COP_ABORTED) up[v].emplace_back(out, out + COP_CO);
+                if (s.what != COP_REFUSED) down[v].pop_front();
+            } else
+                continue;
+            calls++, said[s.what]++;
+        }
+    }
+    printf("%u drawn calls agree: %u refused, %u halted, %u responses, %u aborts, %u confirmations\n", calls, said[COP_REFUSED], said[COP_HALTED],
+           said[COP_RESPONDED], said[COP_ABORTED], said[COP_CONFIRMED]);
+}
+
 // ---- rows
 
 static void broadcasts() {
@@ -323,8 +367,10 @@ static void hashes() {
 }
 
 int main() {
+    setvbuf(stdout, nullptr, _IOLBF, 0);
     for (int i = 0; i < COP_KEYS; ++i) keys[i] = (uint8_t)(i * 7 + 3);
     contexts = new Contexts, kept = new Kept;
+    agree();
     printf("%-34s %8s %8s %6s %8s %6s %8s %6s\n", "nanoseconds a call", "proved", "C++", "ratio", "no 8", "ratio", "kept", "ratio");
     broadcasts();
     reply_row("RE of 1", 1, false);
