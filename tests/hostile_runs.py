@@ -41,7 +41,7 @@ class Hostile:
             elif what <= 4:
                 self.serve(v)
             elif what == 8 and len(self.groups) > 1 and d.chance(30):
-                self.put(d.below(len(self.groups)), d.one_of((self.ins + self.cos)[-12:] or [b"IN"]))
+                self.put(d.below(len(self.groups)), d.one_of(self.ins[-6:] + self.cos[-6:] or [b"IN"]))
             else:
                 self.deliver(v)
         return self.run
