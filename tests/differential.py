@@ -5,10 +5,11 @@ It prints how often each outcome was seen, by call and kind of run, and fails at
 of demand 3, or where one of document 01's numbers was not seen. Equal CALLS and SEED give equal calls everywhere.
 """
 
-import multiprocessing
 import pathlib
 import sys
 import time
+from concurrent.futures import ProcessPoolExecutor
+from concurrent.futures.process import BrokenProcessPool
 
 from drawn_runs import Drawn, honest
 from drawn_states import states
@@ -57,7 +58,7 @@ def main():
     seed = sys.argv[2] if len(sys.argv) > 2 else "1"
     started = time.time()
     calls, seen, facts = 0, {}, {kind: {} for kind in KINDS}
-    with multiprocessing.Pool() as pool:
+    with ProcessPoolExecutor() as pool:
         i = 0
         while calls < calls_wanted:
             for kind, n, outcomes, found, wrong in pool.map(one_run, [(seed, i + k) for k in range(64)], chunksize=4):
@@ -95,4 +96,7 @@ def report(calls, seen, facts, seconds):
 
 
 if __name__ == "__main__":
-    sys.exit(main())
+    try:
+        sys.exit(main())
+    except BrokenProcessPool:
+        sys.exit("a call ended its process: it read or wrote where it may not")
