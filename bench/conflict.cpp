@@ -1,7 +1,7 @@
 // Times the proved conflict test (target/staticlib/libbench_conflict.a) against plain C++ implementations,
 // in one run. bench/README-conflict.md says how.
+#include "shifts.h"
 #include <algorithm>
-#include <bitset>
 #include <chrono>
 #include <cstdint>
 #include <cstdio>
@@ -11,29 +11,9 @@
 
 extern "C" bool rattle_conflict(const uint8_t *cells, const uint8_t *others, size_t n, const uint8_t *own, size_t m);
 
-using Set = std::bitset<256>;
-
 struct Op {
     int kind, cell, amount;
 };
-
-static int value(Op e, int v) {
-    switch (e.kind) {
-    case 1: return v + e.amount <= 255 ? v + e.amount : v;
-    case 2: return e.amount <= v ? v - e.amount : v;
-    case 4: return e.amount;
-    default: return v;
-    }
-}
-
-static int response(Op e, int v) {
-    switch (e.kind) {
-    case 1: return v + e.amount <= 255;
-    case 2: return e.amount <= v;
-    case 3: return v;
-    default: return 1;
-    }
-}
 
 // The same search value by value, its marks in bitsets.
 static bool values(int start, const std::vector<Op> &others, const std::vector<Op> &own) {
@@ -57,42 +37,6 @@ static bool values(int start, const std::vector<Op> &others, const std::vector<O
                 if (s[v]) t.set(value(others[i], v));
             s = t;
         }
-    }
-}
-
-// The same search with whole sets moved at once by shifts, no loop over values.
-static Set low[257];
-
-static Set moved(const Set &s, Op e) {
-    switch (e.kind) {
-    case 1: return ((s & low[256 - e.amount]) << e.amount) | (s & ~low[256 - e.amount]);
-    case 2: return ((s & ~low[e.amount]) >> e.amount) | (s & low[e.amount]);
-    case 4: return s.any() ? Set().set(e.amount) : Set();
-    default: return s;
-    }
-}
-
-static bool differs(const Set &s, Op e, int u) {
-    switch (e.kind) {
-    case 1: return (u + e.amount <= 255 ? s & ~low[256 - e.amount] : s & low[256 - e.amount]).any();
-    case 2: return (e.amount <= u ? s & low[e.amount] : s & ~low[e.amount]).any();
-    case 3: return Set(s).reset(u).any();
-    default: return false;
-    }
-}
-
-static bool shifts(int start, const std::vector<Op> &others, const std::vector<Op> &own) {
-    std::vector<Set> reach(own.size() + 1);
-    reach[0].set(start);
-    for (size_t i = 0;; ++i) {
-        int u = start;
-        for (size_t j = 0; j < own.size(); ++j) {
-            if (differs(reach[j], own[j], u)) return true;
-            reach[j + 1] |= moved(reach[j], own[j]);
-            u = value(own[j], u);
-        }
-        if (i == others.size()) return false;
-        for (Set &s : reach) s |= moved(s, others[i]);
     }
 }
 
@@ -158,15 +102,13 @@ static Times timed(const Case &c) {
     Times t = {1e9, 1e9, 1e9};
     for (int r = 0; r < 600; ++r) {
         t.proved = std::min(t.proved, once([&] { return proved(c); }));
-        t.shifts = std::min(t.shifts, once([&] { return whole(shifts, c); }));
+        t.shifts = std::min(t.shifts, once([&] { return whole(shifts<Op>, c); }));
         if (r % 20 == 0) t.values = std::min(t.values, once([&] { return whole(values, c); }));
     }
     return t;
 }
 
 int main() {
-    for (int i = 0; i <= 256; ++i)
-        for (int v = 0; v < i; ++v) low[i].set(v);
 
     // First, the three agree on random cases.
     std::mt19937 random(1);
@@ -181,7 +123,7 @@ int main() {
         Case c = make("", random() % wide, n, op, m, op);
         bool a = proved(c);
         yes += a;
-        if (a != whole(values, c) || a != whole(shifts, c)) {
+        if (a != whole(values, c) || a != whole(shifts<Op>, c)) {
             printf("differ at random case %d\n", r);
             return 1;
         }
@@ -208,7 +150,7 @@ int main() {
     printf("%-30s %8s %12s %6s %10s %6s\n", "microseconds a call", "proved", "C++ shifts", "ratio", "C++ values", "ratio");
     double worst = 0, to_shifts = 0, to_values = 0;
     for (const Case &c : cases) {
-        if (proved(c) != whole(values, c) || proved(c) != whole(shifts, c)) {
+        if (proved(c) != whole(values, c) || proved(c) != whole(shifts<Op>, c)) {
             printf("differ at %s\n", c.name);
             return 1;
         }

@@ -3,13 +3,12 @@
 // whose state nobody else writes.
 #pragma once
 #include "../include/cop.h"
+#include "shifts.h"
 #include <array>
-#include <bitset>
 #include <cstring>
 #include <vector>
 
 using Bytes32 = std::array<uint8_t, 32>;
-using Set = std::bitset<256>;
 
 struct Op {
     uint32_t count = 0;
@@ -31,65 +30,6 @@ inline bool may(int kind, int cell, int amount) { return 1 <= kind && kind <= 4 
 inline bool allowed(const Op &o) { return 1 <= o.count && o.count <= COP_COUNT_MOST && may(o.kind, o.cell, o.amount) && o.last == 0; }
 inline bool author_allowed(int a) { return 1 <= a && a <= 8; }
 
-inline int response(const Op &o, int v) {
-    switch (o.kind) {
-    case COP_ADD: return v + o.amount <= 255;
-    case COP_TAKE: return o.amount <= v;
-    case COP_READ: return v;
-    default: return 1;
-    }
-}
-inline int value(const Op &o, int v) {
-    switch (o.kind) {
-    case COP_ADD: return v + o.amount <= 255 ? v + o.amount : v;
-    case COP_TAKE: return o.amount <= v ? v - o.amount : v;
-    case COP_SET: return o.amount;
-    default: return v;
-    }
-}
-
-// The conflict test by shifts of whole bitsets, as in bench/conflict.cpp.
-struct Low {
-    Set at[257];
-    Low() {
-        for (int i = 0; i <= 256; ++i)
-            for (int v = 0; v < i; ++v) at[i].set(v);
-    }
-};
-inline const Set &low(int i) {
-    static const Low l;
-    return l.at[i];
-}
-inline Set moved(const Set &s, const Op &e) {
-    switch (e.kind) {
-    case COP_ADD: return ((s & low(256 - e.amount)) << e.amount) | (s & ~low(256 - e.amount));
-    case COP_TAKE: return ((s & ~low(e.amount)) >> e.amount) | (s & low(e.amount));
-    case COP_SET: return s.any() ? Set().set(e.amount) : Set();
-    default: return s;
-    }
-}
-inline bool differs(const Set &s, const Op &e, int u) {
-    switch (e.kind) {
-    case COP_ADD: return (u + e.amount <= 255 ? s & ~low(256 - e.amount) : s & low(256 - e.amount)).any();
-    case COP_TAKE: return (e.amount <= u ? s & low(e.amount) : s & ~low(e.amount)).any();
-    case COP_READ: return Set(s).reset(u).any();
-    default: return false;
-    }
-}
-inline bool conflict_on_cell(int start, const std::vector<Op> &others, const std::vector<Op> &own) {
-    std::vector<Set> reach(own.size() + 1);
-    reach[0].set(start);
-    for (size_t i = 0;; ++i) {
-        int u = start;
-        for (size_t j = 0; j < own.size(); ++j) {
-            if (differs(reach[j], own[j], u)) return true;
-            reach[j + 1] |= moved(reach[j], own[j]);
-            u = value(own[j], u);
-        }
-        if (i == others.size()) return false;
-        for (Set &s : reach) s |= moved(s, others[i]);
-    }
-}
 inline bool conflict(const uint8_t *cells, const std::vector<Op> &others, const std::vector<Op> &own) {
     for (int k = 0; k < 16; ++k) {
         std::vector<Op> os, ws;
@@ -98,7 +38,7 @@ inline bool conflict(const uint8_t *cells, const std::vector<Op> &others, const 
         if (ws.empty()) continue;
         for (const Op &o : others)
             if (o.cell == k) os.push_back(o);
-        if (!os.empty() && conflict_on_cell(cells[k], os, ws)) return true;
+        if (!os.empty() && shifts(cells[k], os, ws)) return true;
     }
     return false;
 }
