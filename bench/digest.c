@@ -6,17 +6,14 @@
 #include <stdlib.h>
 #include <string.h>
 #include <time.h>
+#include "../include/cop.h"
 #include "plain.h"
-
-// the exported functions of crates/bench_digest: a slice is a pointer and a length
-uint8_t bench_digest(const uint8_t *m, size_t n, uint8_t out[32]);
-uint8_t bench_tag(const uint8_t *key, size_t kn, const uint8_t *m, size_t n, uint8_t out[32]);
 
 enum { LONG = 16384, TURNS = 400 };
 static uint8_t message[LONG], key[32], out[32];
 
-static void our_digest(size_t n) { bench_digest(message, n, out); }
-static void our_tag(size_t n) { bench_tag(key, 32, message, n, out); }
+static void our_digest(size_t n) { cop_digest(message, n, out); }
+static void our_tag(size_t n) { cop_tag(key, 32, message, n, out); }
 static void c_digest(size_t n) { plain_digest(message, n, out); }
 static void c_tag(size_t n) { plain_tag(key, 32, message, n, out); }
 static void ssl_digest(size_t n) { SHA256(message, n, out); }

@@ -13,41 +13,35 @@ are in hexadecimal, `-` for no bytes; other numbers are decimal.
 
 Each call gives one line: the outcome's word and numbers (for a change, the word alone), and the first eight bytes of the
 SHA-256 digest of the whole book; for an invoke and a receive also those of the out buffer. That has 128 bytes of value
-0xaa, of which the first ROOM are lent. A book has 1,382 bytes: each field in the order of FIELDS, numbers in four bytes.
+0xaa, of which the first ROOM are lent. A book has 1,382 bytes: each field in the order of LAYOUT, numbers in four bytes.
 """
 
-import hashlib
-import sys
-
 import cop
+from call_lines import Layout, bytes_of
 from cop import ASIDE, DONE, Book
 
 # Field, number of bytes of an element, number of elements.
-FIELDS = (
-    ("number", 1, 1),
-    ("keys", 1, 256),
-    ("count", 4, 1),
-    ("hand.count", 4, 1),
-    ("hand.kind", 1, 1),
-    ("hand.cell", 1, 1),
-    ("hand.amount", 1, 1),
-    ("hand.last", 1, 1),
-    ("c", 4, 1),
-    ("held", 4, 1),
-    ("chain", 1, 33 * 32),
-    ("statuses", 1, 32),
-    ("cells", 1, 16),
-    ("halt", 1, 1),
+LAYOUT = Layout(
+    (
+        ("number", 1, 1),
+        ("keys", 1, 256),
+        ("count", 4, 1),
+        ("hand.count", 4, 1),
+        ("hand.kind", 1, 1),
+        ("hand.cell", 1, 1),
+        ("hand.amount", 1, 1),
+        ("hand.last", 1, 1),
+        ("c", 4, 1),
+        ("held", 4, 1),
+        ("chain", 1, 33 * 32),
+        ("statuses", 1, 32),
+        ("cells", 1, 16),
+        ("halt", 1, 1),
+    ),
+    room=128,
 )
-NAMES = [name for name, _, _ in FIELDS]
-START = {}
-SIZE = 0
-for name, width, elements in FIELDS:
-    START[name] = SIZE
-    SIZE += width * elements
 
 STATUS_BYTE = {None: 0, DONE: 1, ASIDE: 2}
-ROOM = 128
 
 
 def image(book):
@@ -73,7 +67,7 @@ def book_of(data):
     that is none of the three, or more than 32 places. That is part of question 8."""
 
     def part(name, length):
-        return data[START[name] : START[name] + length]
+        return LAYOUT.part(data, name, 0, length)
 
     held = int.from_bytes(part("held", 4), "big")
     statuses = part("statuses", 32)
@@ -93,37 +87,6 @@ def book_of(data):
         halt=data[-1],
     )
     return book if image(book) == data else None
-
-
-def digest(data):
-    return hashlib.sha256(data).digest()[:8].hex()
-
-
-def line(outcome, data, out=None):
-    """The line that a call gives, by outcome, book, and the out bytes lent to it."""
-    words = [*outcome, digest(data)]
-    if out is not None:
-        words.append(digest(out.ljust(ROOM, b"\xaa")))
-    return " ".join(map(str, words))
-
-
-def hexadecimal(data):
-    return data.hex() or "-"
-
-
-def bytes_of(word):
-    return b"" if word == "-" else bytes.fromhex(word)
-
-
-def place(name, index):
-    """Where an element of a field stands in a book."""
-    _, width, elements = FIELDS[NAMES.index(name)]
-    assert index < elements
-    return START[name] + width * index
-
-
-def changed(data, at, value):
-    return data[:at] + value + data[at + len(value) :]
 
 
 def call(data, room, step):
@@ -150,20 +113,10 @@ def run(slots, words):
         slot, to, room, message = words[1:]
         data, outcome, out = call(slots[int(slot)], int(room), lambda book, out: cop.take(book, bytes_of(message), out))
     else:
-        assert words[0] == "change"
-        slot, to, at, value, field = words[1:]
-        name, index = field.rstrip("]").split("[") if field.endswith("]") else (field, 0)
-        assert int(at) == place(name, int(index))
-        data, outcome = changed(slots[int(slot)], int(at), bytes_of(value)), ("changed",)
+        to, data, outcome = LAYOUT.change(slots, words)
     slots[int(to)] = data
     return outcome, data, out
 
 
-def main():
-    slots = [image(cop.NO_BOOK)] * 4
-    for text in sys.stdin.read().splitlines():
-        print(text if text.startswith("#") else line(*run(slots, text.split(" "))))
-
-
 if __name__ == "__main__":
-    main()
+    LAYOUT.answer([image(cop.NO_BOOK)] * 4, run)

@@ -5,6 +5,9 @@ The expected answer comes from cop.py, which is written from document 01 alone: 
 the others' operations and every interleaving. Lists too long for that are decided by cop.py's search over the values that
 each cell can reach, which is first held to the other way on 3,000 random small cases.
 
+A line of stdin has three words in hexadecimal: the sixteen cells, the others' operations and the own ones, each in order and
+three bytes each: kind, cell and amount; `-` for none.
+
   tests/conflict_cases.py          writes crates/conflict_cases/stdin and stdout
   tests/conflict_cases.py --check  says whether they are what it would write
 """
@@ -95,10 +98,13 @@ def cases():
         yield held, [some_op(rng, cells, amounts) for _ in range(32)], own
 
 
+def operations(ops):
+    return bytes(v for op in ops for v in op).hex() or "-"
+
+
 def line(case):
     held, others, own = case
-    ops = [("o", op) for op in others] + [("w", op) for op in own]
-    return "".join("%02x" % v for v in held) + "".join(" %s%d%x%02x" % (who, *op) for who, op in ops)
+    return " ".join((bytes(held).hex(), operations(others), operations(own)))
 
 
 def main():

@@ -5,9 +5,10 @@ import pathlib
 import sys
 from collections import deque
 
-import client_run
+import call_lines
 import cop
-from client_run import FIELDS, NAMES, ROOM, book_of, call, hexadecimal, image, line, place
+from call_lines import hexadecimal
+from client_run import LAYOUT, book_of, call, image
 from cop import ADD, ASIDE, DONE, READ, SET, TAKE, Entry
 from draws import Draws
 
@@ -29,7 +30,7 @@ class Script:
 
     def told(self, to, data, outcome, out=None):
         self.slots[to] = data
-        self.lines.append(line(outcome, data, out))
+        self.lines.append(LAYOUT.line(outcome, data, out))
         self.outcomes.add(outcome[0] if outcome[0] not in ("no", "halt") else outcome)
 
     def note(self, text):
@@ -43,7 +44,7 @@ class Script:
         return outcome
 
     def call(self, slot, to, room, step):
-        assert room <= ROOM
+        assert room <= LAYOUT.room
         data, outcome, out = call(self.slots[slot], room, step)
         self.told(to, data, outcome, out)
         return outcome, out
@@ -61,11 +62,11 @@ class Script:
 
     def change(self, slot, name, value, index=0, to=None):
         to = slot if to is None else to
-        _, width, elements = FIELDS[NAMES.index(name)]
-        at, value = place(name, index), value.to_bytes(width, "big")
+        _, width, elements = LAYOUT.fields[LAYOUT.names.index(name)]
+        at, value = LAYOUT.place(name, index), value.to_bytes(width, "big")
         field = name if elements == 1 else "%s[%d]" % (name, index)
         self.asked("change", slot, to, at, hexadecimal(value), field)
-        self.told(to, client_run.changed(self.slots[slot], at, value), ("changed",))
+        self.told(to, call_lines.changed(self.slots[slot], at, value), ("changed",))
 
     def copy(self, slot, to):
         """A change that changes nothing."""

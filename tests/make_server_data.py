@@ -1,150 +1,56 @@
-"""Writes crates/server_run/stdin, a list of calls on relay states, and crates/server_run/stdout, what cop.py has a program
-print for it: `python3 tests/make_server_data.py`.
-
-The program keeps two states, in slots 0 and 1, both fresh at first. Its input is a list of records, each a head of eight
-bytes and then a body:
-
-    0     command: N note, F fresh state, R take a message, P poke (set one element of a field)
-    1     the slot of the state that the call gets
-    2     the slot that the state goes to afterwards
-    3     R: the line's number; P: field, its place in FIELDS
-    4, 5  R: out bytes lent, at most 4,096; P: index in the field
-    6, 7  length of the body, at most 4,096
-    body  N: the line to print; R: message; P: value, in four bytes
-
-A note is printed as it is. Any other record gives one line: the outcome's word and number (for F and P the word `set`),
-the first eight bytes of the SHA-256 digest of the state afterwards, and for R those of the out buffer. The state's 3,432
-bytes are each field in the order of FIELDS, numbers in four bytes, and zeros up to 4,096. The buffer has 4,096 bytes of
-value 0xaa, of which the first are lent.
-"""
+"""Writes crates/server_run/stdin, a list of calls on relay states in the form that server_run.py describes, and
+crates/server_run/stdout, what cop.py has a program print for it."""
 
 import pathlib
 import sys
 from collections import deque
 
 import cop
+import server_run
+from call_lines import hexadecimal
 from cop import ADD, ASIDE, DONE, READ, SET, TAKE, Entry
 from draws import Draws
+from server_run import LAYOUT
 
-# Field, number of bytes of an element, number of elements.
-FIELDS = (
-    ("t", 4, 1),
-    ("b", 4, 1),
-    ("last", 4, 8),
-    ("items", 1, 32 * 41),
-    ("statuses", 1, 32),
-    ("digests", 1, 32 * 32),
-    ("tags", 1, 32 * 32),
-)
-NAMES = [name for name, _, _ in FIELDS]
-START = {}
-SIZE = 0
-for name, width, elements in FIELDS:
-    START[name] = SIZE
-    SIZE += width * elements
-
-BUFFER = 4096
 VANS = range(1, 9)
 KEYS = bytes((7 * i + 3) % 256 for i in range(256))
 
 
-def image(relay):
-    """A state as the program holds it: of a commit what its item does not say."""
-    commits = [cop.commit_of(m) if m else None for m in relay.commits]
-    return b"".join(
-        (
-            cop.number(relay.t),
-            cop.number(relay.b),
-            b"".join(map(cop.number, relay.last)),
-            b"".join(item.bytes() for item in relay.items).ljust(32 * 41, b"\0"),
-            bytes({None: 0, DONE: 1, ASIDE: 2}[m.status if m else None] for m in commits).ljust(32, b"\0"),
-            b"".join(m.value if m else bytes(32) for m in commits).ljust(32 * 32, b"\0"),
-            b"".join(m.tag if m else bytes(32) for m in commits).ljust(32 * 32, b"\0"),
-        )
-    )
-
-
-def relay_of(data):
-    """The state that an image holds, or None if it holds none: places below 0 or above 32, a status that is none of the
-    three, or something in an unused slot. That is part of question 8."""
-
-    def part(name, at, length):
-        return data[START[name] + at : START[name] + at + length]
-
-    def number(name, k=0):
-        return int.from_bytes(part(name, 4 * k, 4), "big")
-
-    t, b = number("t"), number("b")
-    statuses = part("statuses", 0, 32)
-    if not 0 <= t - b <= 32 or max(statuses) > 2:
-        return None
-    items = tuple(cop.item_of(part("items", 41 * k, 41)) for k in range(t - b))
-    commits = []
-    for k, item in enumerate(items):
-        string = cop.co_string(item.entry, item.author, b + 1 + k, part("digests", 32 * k, 32), statuses[k] % 2)
-        commits.append(string + part("tags", 32 * k, 32) if statuses[k] else None)
-    relay = cop.Relay(t, b, items, tuple(commits), tuple(number("last", k) for k in range(8)))
-    return relay if image(relay) == data else None
-
-
-def short(data):
-    return cop.digest(data)[:8].hex()
-
-
 class Script:
-    """The records, and the lines that they give. Each call gives the outcome and the out bytes lent."""
+    """The lines of input, and those that they give. Each call gives the outcome and the out bytes lent."""
 
     def __init__(self):
-        self.records = []
+        self.calls = []
         self.lines = []
-        self.slots = [image(cop.Relay())] * 2
+        self.slots = [bytes(LAYOUT.size)] * 2
         self.outcomes = set()
-        self.calls = 0
-
-    def record(self, command, slot, to, a=0, b=0, body=b""):
-        assert len(body) <= 4096
-        head = command.encode() + bytes([slot, to, a]) + b.to_bytes(2, "big") + len(body).to_bytes(2, "big")
-        self.records.append(head + body)
 
     def note(self, text):
-        self.record("N", 0, 0, body=b"# " + text.encode())
+        self.calls.append("# " + text)
         self.lines.append("# " + text)
 
-    def set(self, to, data):
-        self.slots[to] = data
-        self.lines.append("set " + short(data.ljust(4096, b"\0")))
-
-    def fresh(self, to=0):
-        self.record("F", 0, to)
-        self.set(to, image(cop.Relay()))
-
-    def poke(self, name, value, index=0, slot=0, to=0):
-        _, width, elements = FIELDS[NAMES.index(name)]
-        assert index < elements and value < 256**width
-        self.record("P", slot, to, NAMES.index(name), index, cop.number(value))
-        at = START[name] + width * index
-        data = self.slots[slot]
-        self.set(to, data[:at] + value.to_bytes(width, "big") + data[at + width :])
-
-    def take(self, line, message, room=BUFFER, slot=0, to=0):
-        self.record("R", slot, to, line, room, message)
-        data, out = self.slots[slot], b"\xaa" * room
-        relay = relay_of(data)
-        if relay is None:
-            outcome = cop.no(8)
-        else:
-            after, outcome, out = cop.relay_take(relay, line, message, out)
-            data = image(after)
-        self.slots[to] = data
-        words = [*outcome, short(data.ljust(4096, b"\0")), short(out.ljust(BUFFER, b"\xaa"))]
-        self.lines.append(" ".join(map(str, words)))
+    def asked(self, *words):
+        self.calls.append(" ".join(map(str, words)))
+        outcome, data, out = server_run.run(self.slots, self.calls[-1].split(" "))
+        self.lines.append(LAYOUT.line(outcome, data, out))
         self.outcomes.add(outcome if outcome[0] == "no" else outcome[0])
-        self.calls += 1
         return outcome, out
 
-    def look(self, line, message, room=BUFFER, slot=0):
+    def fresh(self, to=0):
+        self.asked("fresh", to)
+
+    def change(self, name, value, index=0, slot=0, to=0):
+        _, width, elements = LAYOUT.fields[LAYOUT.names.index(name)]
+        field = name if elements == 1 else "%s[%d]" % (name, index)
+        self.asked("change", slot, to, LAYOUT.place(name, index), hexadecimal(value.to_bytes(width, "big")), field)
+
+    def take(self, number, message, room=LAYOUT.room, slot=0, to=0):
+        assert len(message) <= 4096 and room <= LAYOUT.room
+        return self.asked("receive", slot, to, number, room, hexadecimal(message))
+
+    def look(self, number, message, room=LAYOUT.room, slot=0):
         """A call whose state afterwards is put into slot 1."""
-        return self.take(line, message, room, slot, 1)[0]
+        return self.take(number, message, room, slot, 1)[0]
 
 
 def invoke(van, count, kind=ADD, cell=0, amount=1):
@@ -260,7 +166,7 @@ def invokes(s):
     for room in (0, 3, 44, 126, 127, 166, 167, 168, 4096):
         s.look(2, invoke(2, 3), room)
     s.note("The highest count")
-    s.poke("last", cop.LIMIT - 1, 1, to=1)
+    s.change("last", cop.LIMIT - 1, 1, to=1)
     assert s.take(2, invoke(2, cop.LIMIT), slot=1, to=1)[0][0] == "placed"
     s.look(2, invoke(2, cop.LIMIT), slot=1)
     s.look(2, invoke(2, 1), slot=1)
@@ -334,8 +240,8 @@ def limits(s):
     s.note("The highest places")
     s.fresh()
     for t in (cop.LIMIT - 2, cop.LIMIT - 1, cop.LIMIT):
-        s.poke("t", t, slot=0, to=1)
-        s.poke("b", t, slot=1, to=1)
+        s.change("t", t, slot=0, to=1)
+        s.change("b", t, slot=1, to=1)
         for van in (1, 2, 3):
             s.take(van, invoke(van, 1), slot=1, to=1)
         for van, place in ((3, cop.LIMIT + 1), (2, cop.LIMIT), (1, cop.LIMIT - 1), (1, cop.LIMIT)):
@@ -346,8 +252,8 @@ def limits(s):
     s.note("33 comes before 34")
     for k in range(32):
         s.take(1 + k % 8, invoke(1 + k % 8, 1 + k // 8))
-    s.poke("t", cop.LIMIT)
-    s.poke("b", cop.LIMIT - 32)
+    s.change("t", cop.LIMIT)
+    s.change("b", cop.LIMIT - 32)
     s.look(1, invoke(1, 5))
     s.look(1, commit(1, Entry(1, ADD, 0, 1), cop.LIMIT - 31), 79)
     s.take(1, commit(1, Entry(1, ADD, 0, 1), cop.LIMIT - 31), 80)
@@ -416,14 +322,14 @@ def ranges(s):
         ("tags", 1, 96),
         ("tags", 1, 1023),
     ):
-        s.poke(name, value, index, to=1)
+        s.change(name, value, index, to=1)
         s.take(2, good_in, slot=1, to=1)
-        s.poke(name, value, index, to=1)
+        s.change(name, value, index, to=1)
         s.take(1, good_co, slot=1, to=1)
-        s.poke(name, value, index, to=1)
+        s.change(name, value, index, to=1)
         s.take(9, b"", 0, slot=1, to=1)
     s.note("Commits at the first places that wait, by hand: they go with the next CO")
-    s.poke("statuses", 1, 0)
+    s.change("statuses", 1, 0)
     s.look(2, good_in)
     s.take(1, commit(1, Entry(3, READ, 15, 0), 5), 239, to=1)
     assert s.take(1, commit(1, Entry(3, READ, 15, 0), 5), 240)[0] == ("passed", 3)
@@ -436,13 +342,15 @@ def main():
     script = Script()
     for section in SECTIONS:
         section(script)
-    wanted = {"placed", "passed"} | {("no", n) for n in (7, 8, 30, 31, 32, 33, 34, 35, 36)}
+    wanted = {"fresh", "changed", "placed", "passed"} | {("no", n) for n in (7, 8, 30, 31, 32, 33, 34, 35, 36)}
     assert script.outcomes == wanted, script.outcomes ^ wanted
     here = pathlib.Path(sys.argv[1] if len(sys.argv) > 1 else pathlib.Path(__file__).parents[1] / "crates/server_run")
     here.mkdir(parents=True, exist_ok=True)
-    (here / "stdin").write_bytes(b"".join(script.records))
+    text = "\n".join(script.calls) + "\n"
+    assert len(text) <= 1048576
+    (here / "stdin").write_text(text)
     (here / "stdout").write_text("\n".join(script.lines) + "\n")
-    print("%d calls, %d records, %d bytes of input" % (script.calls, len(script.records), sum(map(len, script.records))))
+    print("%d lines, %d bytes of input" % (len(script.calls), len(text)))
 
 
 if __name__ == "__main__":

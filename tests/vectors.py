@@ -5,8 +5,8 @@ The published examples come from tests/vectors/, with their published digests an
 the block's and the limit's bounds are added, with digests and tags by Python's hashlib and hmac.
 Every published value is compared with hashlib's and hmac's too.
 
-A line of stdin: D LABEL SHOWN INPUT, or T LABEL SHOWN KEY INPUT. SHOWN is how many bytes are printed; INPUT
-and KEY are N*HEX, those bytes again and again up to N. A line of stdout: the label, and the bytes in hexadecimal or "refused 9".
+A line of stdin: digest LABEL SHOWN INPUT, or tag LABEL SHOWN KEY INPUT. SHOWN is how many bytes are printed; INPUT and KEY are
+two words each, N HEX: those bytes again and again up to N. A line of stdout: the label, and the bytes in hexadecimal or "refused 9".
 """
 import hashlib, hmac, os
 
@@ -17,7 +17,7 @@ cases, expected = [], []
 
 
 def spelled(n, part):
-    return f"{n}*{part.hex()}"
+    return f"{n} {part.hex()}"
 
 
 def value(n, part):
@@ -33,7 +33,7 @@ def run(label, shown, parts, published=None):
     else:
         found = hmac.new(values[0], values[1], hashlib.sha256).digest()[:shown].hex()
     assert published in (None, found), label
-    cases.append(" ".join(["D" if len(parts) == 1 else "T", label, str(shown)] + [spelled(*p) for p in parts]))
+    cases.append(" ".join(["digest" if len(parts) == 1 else "tag", label, str(shown)] + [spelled(*p) for p in parts]))
     expected.append(f"{label} {found}")
 
 

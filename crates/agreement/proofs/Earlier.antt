@@ -11,7 +11,8 @@ use lib.Dec.{eqb}
 use lib.ListN.{length, length-append}
 use borrow.Author.Tests.{eq-eqb}
 use Rattle.replica.specs.Outcome.{Told, confirmed}
-use Rattle.agreement.specs.WholeRuns.{Call, caller, stepOf, World, start, update, Logged, says, runFrom, logOf, allOf, taken, Entry, Confirmation, confirmationOf, history, entries, Replied, answer, aside, zeroCells, runEntries, strings, LetOff, collision, forgery, Answered, Agreement, Demand}
+use Rattle.operation.specs.Operation.{zeroCells}
+use Rattle.agreement.specs.WholeRuns.{Call, caller, stepOf, World, start, update, Logged, says, runFrom, logOf, allOf, taken, Entry, Confirmation, confirmationOf, history, entries, Replied, answer, aside, runEntries, strings, LetOff, collision, forgery, Answered, Agreement, Demand}
 use Rattle.agreement.proofs.Agreement.{demand}
 
 -- ---- the list cut after a call

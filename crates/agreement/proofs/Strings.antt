@@ -11,8 +11,8 @@ use Rattle.operation.specs.declared.Operation.{Operation}
 use Rattle.message.specs.declared.Commit.{Commit}
 use Rattle.message.specs.Message.{chainString, replyCount, replyItem, commitOf}
 use Rattle.round_trips.proofs.Operations.{ok-fits}
-use Rattle.verify.specs.Verify.{valueAt}
-use Rattle.verify.proofs.Laws.{value-length}
+use Rattle.replica.specs.Places.{valueAt}
+use Rattle.replica.proofs.Places.{value-length}
 use Rattle.replica.specs.declared.Replica.{Replica}
 use Rattle.replica.proofs.Laws.{Sized}
 use Rattle.client_broadcast.specs.Broadcast.{broadcastNo}
@@ -41,7 +41,7 @@ in-all {A} f (y ∷ es) {e} {x} m h = go (λ m. in-all f es m h) (List·Memᴰ·
     go below (inr m) = Memᴰ·append-right (f y) (below m)
 
 pub in-items : (r : Replica) (m : List ℕ) (n j : ℕ) → j < n
-    → List·Memᴰ (chainString (valueAt j (chainAfter r m)) (replyItem m j .op) (seqAt (r .confirmed) j) (replyItem m j .author)) (itemStrings r m n)
+    → List·Memᴰ (chainString (valueAt (r .confirmed) j (chainAfter r m)) (replyItem m j .op) (seqAt (r .confirmed) j) (replyItem m j .author)) (itemStrings r m n)
 unfolding itemStrings
 in-items r m zero j h = absurd (omega arith)
 in-items r m (suc n) j h =
@@ -71,8 +71,8 @@ module _ (r : Replica) (m : List ℕ) (room : ℕ) (z : replyNo r m room ≡ 0) 
   chain-long =
       ap length (sym (replied-chain r (chainAfter r m) (replyCount m) (isAborted r m))) ∙ reply-sized r m room z (s .chain) s .chain
 
-  pub chain-value : (j : ℕ) → j ≤ replyCount m → length (valueAt j (chainAfter r m)) ≡ 32
-  chain-value j h = value-length j (chainAfter r m) (let l = chain-long in let f = few in omega arith)
+  pub chain-value : (j : ℕ) → j ≤ replyCount m → length (valueAt (r .confirmed) j (chainAfter r m)) ≡ 32
+  chain-value j h = value-length (r .confirmed) j (chainAfter r m) chain-long (let f = few in omega arith)
 
   pub item-fits : (j : ℕ) → j < replyCount m → replyItem m j .op .count < 2 ^ 32
   item-fits j h = ok-fits (replyItem m j .op) (item-taken r m room z (s .chain) j h .fine .op)
@@ -152,7 +152,7 @@ module _ (keys : List ℕ) (log : List Logged) (F : (e : Logged) → List·Mem�
     pub event : Logged
     pub is : log ≡ older ++ (event ∷ newer)
     pub past : o ≡ onto older []
-    pub value-is : valueAt 0 (event .before .chain) ≡ v
+    pub value-is : valueAt (event .before .confirmed) 0 (event .before .chain) ≡ v
     pub commit-of : commitOf (took event) ≡ k
     pub passed : broadcastNo (event .before) (took event) ≡ 0
     pub strs : strings event ≡ broadcastString (event .before) (commitOf (took event)) ∷ []

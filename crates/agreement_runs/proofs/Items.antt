@@ -11,7 +11,8 @@ use Rattle.message.specs.declared.Item.{Item}
 use Rattle.message.specs.Readers.{ItemFits, none, more}
 use Rattle.message.specs.Message.{chainString, replyBytes, isReply, replyItem, replyItems}
 use Rattle.round_trips.proofs.Messages.{reply-yes, reply-read}
-use Rattle.verify.specs.Verify.{valueAt, linkValue}
+use Rattle.verify.specs.Verify.{linkValue}
+use Rattle.replica.specs.Places.{valueAt}
 use Rattle.replica.specs.declared.Replica.{Replica}
 use Rattle.checks.specs.Checks.{every}
 use Rattle.replica.specs.Replica.{inRange}
@@ -39,13 +40,13 @@ module _ (r : Replica) (i : Item) (f : ItemFits i) where
   unfolding replyItems
   one-item = (let e = reply-read (i ∷ []) (more f none) in cc e)
 
-  pub one-passes : inRange r ≡ true → r .halt ≡ 0 → Yes (itemChecks r 0 i) → sameOp (i .op) (r .current) ≡ true → eqb (i .author) (r .number) ≡ true
+  pub one-passes : inRange r ≡ true → r .halt ≡ 0 → Yes (itemChecks r 1 0 i) → sameOp (i .op) (r .current) ≡ true → eqb (i .author) (r .number) ≡ true
       → replyNo r (replyBytes (i ∷ [])) 80 ≡ 0
   unfolding replyBytes lastOk
   one-passes range clear y p q = reply-passes r one 80 range clear one-form (omega arith) items last
     where
-      items : (k : ℕ) → k < 1 → Yes (itemChecks r k (replyItem (replyBytes (i ∷ [])) k))
-      items zero h = subst (λ (i : Item). Yes (itemChecks r 0 i)) (sym one-item) y
+      items : (k : ℕ) → k < 1 → Yes (itemChecks r 1 k (replyItem (replyBytes (i ∷ [])) k))
+      items zero h = subst (λ (i : Item). Yes (itemChecks r 1 0 i)) (sym one-item) y
       items (suc k) h = absurd (omega arith)
 
       last : every true (leb 1 1 ∷ sameOp (replyItem (replyBytes (i ∷ [])) 0 .op) (r .current) ∷ eqb (replyItem (replyBytes (i ∷ [])) 0 .author) (r .number) ∷ []) ≡ true
@@ -54,19 +55,19 @@ module _ (r : Replica) (i : Item) (f : ItemFits i) where
           ∙ every-each (leb 1 1 ∷ sameOp (i .op) (r .current) ∷ eqb (i .author) (r .number) ∷ []) (refl, (p, (q, tt)))
 
   module _ (z : replyNo r (replyBytes (i ∷ [])) 80 ≡ 0) (s : Sized r) where
-    pub one-value : valueAt 1 (chainAfter r (replyBytes (i ∷ []))) ≡ linkValue (valueAt 0 (r .chain)) (i .op) (r .confirmed + 1) (i .author)
+    pub one-value : valueAt (r .confirmed) 1 (chainAfter r (replyBytes (i ∷ []))) ≡ linkValue (valueAt (r .confirmed) 0 (r .chain)) (i .op) (r .confirmed + 1) (i .author)
     unfolding itemValue replyBytes
     one-value =
         item-taken r one 80 z (s .chain) 0 (omega arith) .link
         ∙ (λ t. linkValue (values-stay r one 80 z (s .chain) 0 (omega arith) t) (one-item t .op) (r .confirmed + 1) (one-item t .author))
 
     pub one-shows : {P : List Logged → Carried → Type 0} {Ss : List (List ℕ)} {older : List Logged} (n : ℕ) (a : Bool) (x : Response)
-        → List·Memᴰ (chainString (valueAt 0 (r .chain)) (i .op) (r .confirmed + 1) (i .author)) Ss → P older (itemTag i)
+        → List·Memᴰ (chainString (valueAt (r .confirmed) 0 (r .chain)) (i .op) (r .confirmed + 1) (i .author)) Ss → P older (itemTag i)
         → Shows P Ss older (replyEvent n r (i ∷ []) 1 a x)
     unfolding strings tags messageOf replyBytes itemStrings itemTags
     one-shows n a x h p =
         record {
-          ss = chainString (valueAt 0 (r .chain)) (i .op) (r .confirmed + 1) (i .author) ∷ [];
+          ss = chainString (valueAt (r .confirmed) 0 (r .chain)) (i .op) (r .confirmed + 1) (i .author) ∷ [];
           strs =
               taken-reply a x (r .confirmed + 1) _ _
               ∙ (λ t. chainString (values-stay r one 80 z (s .chain) 0 (omega arith) t) (one-item t .op) (r .confirmed + 1) (one-item t .author) ∷ []);
@@ -92,14 +93,14 @@ module _ (r : Replica) (i j : Item) (f : ItemFits i) (g : ItemFits j) where
   unfolding replyItems
   second-item = (let e = reply-read (i ∷ j ∷ []) (more f (more g none)) in cc e)
 
-  pub two-passes : inRange r ≡ true → r .halt ≡ 0 → Yes (itemChecks r 0 i) → Yes (itemChecks r 1 j) → sameOp (j .op) (r .current) ≡ true
+  pub two-passes : inRange r ≡ true → r .halt ≡ 0 → Yes (itemChecks r 2 0 i) → Yes (itemChecks r 2 1 j) → sameOp (j .op) (r .current) ≡ true
       → eqb (j .author) (r .number) ≡ true → replyNo r (replyBytes (i ∷ j ∷ [])) 80 ≡ 0
   unfolding replyBytes lastOk
   two-passes range clear y y′ p q = reply-passes r two 80 range clear two-form (omega arith) items last
     where
-      items : (k : ℕ) → k < 2 → Yes (itemChecks r k (replyItem (replyBytes (i ∷ j ∷ [])) k))
-      items zero h = subst (λ (i : Item). Yes (itemChecks r 0 i)) (sym first-item) y
-      items (suc zero) h = subst (λ (i : Item). Yes (itemChecks r 1 i)) (sym second-item) y′
+      items : (k : ℕ) → k < 2 → Yes (itemChecks r 2 k (replyItem (replyBytes (i ∷ j ∷ [])) k))
+      items zero h = subst (λ (i : Item). Yes (itemChecks r 2 0 i)) (sym first-item) y
+      items (suc zero) h = subst (λ (i : Item). Yes (itemChecks r 2 1 i)) (sym second-item) y′
       items (suc (suc k)) h = absurd (omega arith)
 
       last : every true (leb 1 2 ∷ sameOp (replyItem (replyBytes (i ∷ j ∷ [])) 1 .op) (r .current) ∷ eqb (replyItem (replyBytes (i ∷ j ∷ [])) 1 .author) (r .number) ∷ []) ≡ true
@@ -109,44 +110,44 @@ module _ (r : Replica) (i j : Item) (f : ItemFits i) (g : ItemFits j) where
 
   -- whether it is aborted, and its response, by the first item
   pub two-aborted : isAborted r (replyBytes (i ∷ j ∷ []))
-      ≡ conflicts (r .cells) (sortItem (r .number) (r .statuses) 0 i (record { others = []; own = [] }) .others) (sortItem (r .number) (r .statuses) 0 i (record { others = []; own = [] }) .own ++ (r .current ∷ []))
+      ≡ conflicts (r .cells) (sortItem (r .confirmed) (r .number) (r .statuses) 0 i (record { others = []; own = [] }) .others) (sortItem (r .confirmed) (r .number) (r .statuses) 0 i (record { others = []; own = [] }) .own ++ (r .current ∷ []))
   unfolding isAborted sortTo replyBytes
   two-aborted =
-      ap (λ (i : Item). conflicts (r .cells) (sortItem (r .number) (r .statuses) 0 i (record { others = []; own = [] }) .others) (sortItem (r .number) (r .statuses) 0 i (record { others = []; own = [] }) .own ++ (r .current ∷ []))) first-item
+      ap (λ (i : Item). conflicts (r .cells) (sortItem (r .confirmed) (r .number) (r .statuses) 0 i (record { others = []; own = [] }) .others) (sortItem (r .confirmed) (r .number) (r .statuses) 0 i (record { others = []; own = [] }) .own ++ (r .current ∷ []))) first-item
 
   pub two-response : lastResponse r (replyBytes (i ∷ j ∷ []))
-      ≡ responseOn (r .current) (runAll (sortItem (r .number) (r .statuses) 0 i (record { others = []; own = [] }) .own) (r .cells))
+      ≡ responseOn (r .current) (runAll (sortItem (r .confirmed) (r .number) (r .statuses) 0 i (record { others = []; own = [] }) .own) (r .cells))
   unfolding lastResponse sortTo replyBytes
   two-response =
-      ap (λ (i : Item). responseOn (r .current) (runAll (sortItem (r .number) (r .statuses) 0 i (record { others = []; own = [] }) .own) (r .cells))) first-item
+      ap (λ (i : Item). responseOn (r .current) (runAll (sortItem (r .confirmed) (r .number) (r .statuses) 0 i (record { others = []; own = [] }) .own) (r .cells))) first-item
 
   pub two-tags : (n : ℕ) (a : Bool) (x : Response) → tags (replyEvent n r (i ∷ j ∷ []) 2 a x) ≡ itemTag i ∷ itemTag j ∷ []
   unfolding tags messageOf replyBytes itemTags
   two-tags n a x = taken-reply a x (r .confirmed + 2) _ _ ∙ (λ t. itemTag (first-item t) ∷ itemTag (second-item t) ∷ [])
 
   module _ (z : replyNo r (replyBytes (i ∷ j ∷ [])) 80 ≡ 0) (s : Sized r) where
-    pub two-first : valueAt 1 (chainAfter r (replyBytes (i ∷ j ∷ []))) ≡ linkValue (valueAt 0 (r .chain)) (i .op) (r .confirmed + 1) (i .author)
+    pub two-first : valueAt (r .confirmed) 1 (chainAfter r (replyBytes (i ∷ j ∷ []))) ≡ linkValue (valueAt (r .confirmed) 0 (r .chain)) (i .op) (r .confirmed + 1) (i .author)
     unfolding itemValue replyBytes
     two-first =
         item-taken r two 80 z (s .chain) 0 (omega arith) .link
         ∙ (λ t. linkValue (values-stay r two 80 z (s .chain) 0 (omega arith) t) (first-item t .op) (r .confirmed + 1) (first-item t .author))
 
-    pub two-second : valueAt 2 (chainAfter r (replyBytes (i ∷ j ∷ [])))
-        ≡ linkValue (linkValue (valueAt 0 (r .chain)) (i .op) (r .confirmed + 1) (i .author)) (j .op) (r .confirmed + 2) (j .author)
+    pub two-second : valueAt (r .confirmed) 2 (chainAfter r (replyBytes (i ∷ j ∷ [])))
+        ≡ linkValue (linkValue (valueAt (r .confirmed) 0 (r .chain)) (i .op) (r .confirmed + 1) (i .author)) (j .op) (r .confirmed + 2) (j .author)
     unfolding itemValue replyBytes
     two-second =
         item-taken r two 80 z (s .chain) 1 (omega arith) .link
         ∙ (λ t. linkValue (two-first t) (second-item t .op) (r .confirmed + 2) (second-item t .author))
 
     pub two-shows : {P : List Logged → Carried → Type 0} {Ss : List (List ℕ)} {older : List Logged} (n : ℕ) (a : Bool) (x : Response)
-        → List·Memᴰ (chainString (valueAt 0 (r .chain)) (i .op) (r .confirmed + 1) (i .author)) Ss
-        → List·Memᴰ (chainString (linkValue (valueAt 0 (r .chain)) (i .op) (r .confirmed + 1) (i .author)) (j .op) (r .confirmed + 2) (j .author)) Ss
+        → List·Memᴰ (chainString (valueAt (r .confirmed) 0 (r .chain)) (i .op) (r .confirmed + 1) (i .author)) Ss
+        → List·Memᴰ (chainString (linkValue (valueAt (r .confirmed) 0 (r .chain)) (i .op) (r .confirmed + 1) (i .author)) (j .op) (r .confirmed + 2) (j .author)) Ss
         → P older (itemTag i) → P older (itemTag j) → Shows P Ss older (replyEvent n r (i ∷ j ∷ []) 2 a x)
     unfolding strings tags messageOf replyBytes itemStrings itemTags
     two-shows n a x h h′ p p′ =
         record {
-          ss = chainString (valueAt 0 (r .chain)) (i .op) (r .confirmed + 1) (i .author)
-              ∷ chainString (linkValue (valueAt 0 (r .chain)) (i .op) (r .confirmed + 1) (i .author)) (j .op) (r .confirmed + 2) (j .author) ∷ [];
+          ss = chainString (valueAt (r .confirmed) 0 (r .chain)) (i .op) (r .confirmed + 1) (i .author)
+              ∷ chainString (linkValue (valueAt (r .confirmed) 0 (r .chain)) (i .op) (r .confirmed + 1) (i .author)) (j .op) (r .confirmed + 2) (j .author) ∷ [];
           strs =
               taken-reply a x (r .confirmed + 2) _ _
               ∙ (λ t. chainString (values-stay r two 80 z (s .chain) 0 (omega arith) t) (first-item t .op) (r .confirmed + 1) (first-item t .author)

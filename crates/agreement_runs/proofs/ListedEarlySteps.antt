@@ -10,7 +10,9 @@ use Rattle.slices.proofs.Laws.{same-self}
 use Rattle.operation.specs.Operation.{opOk, allowed, sameOp, response, responseOn, runAll}
 use Rattle.conflict.specs.Conflict.{responses, interleavings, sameResponses, some, conflicts}
 use Rattle.message.specs.Message.{replyBytes, broadcastBytes}
-use Rattle.verify.specs.Verify.{valueAt, linkValue}
+use Rattle.verify.specs.Verify.{linkValue}
+use Rattle.replica.specs.Places.{valueAt}
+use Rattle.replica.proofs.Places.{first-value}
 use Rattle.replica.proofs.Laws.{Sound}
 use Rattle.client_broadcast.specs.Broadcast.{commitOk, nextValue, confirmedReplica}
 use Rattle.client_reply_check.specs.ReplyChecks.{itemOk, itemValue, itemChainOk, replyNo}
@@ -20,7 +22,7 @@ use Rattle.client_laws.proofs.Chain.{values-stay}
 use Rattle.client_laws.proofs.Broadcast.{next-none, value-first}
 use Rattle.client_laws.proofs.Passes.{invoke-passes}
 use Rattle.agreement.specs.WholeRuns.{invoke, receive, stepOf}
-use Rattle.agreement_runs.proofs.Plays.{opens, first-value, sound-after, madeEvent, made-step, confirmEvent, confirm-passes, confirm-step}
+use Rattle.agreement_runs.proofs.Plays.{opens, sound-after, madeEvent, made-step, confirmEvent, confirm-passes, confirm-step}
 use Rattle.agreement_runs.proofs.Replies.{item-passes, replyEvent, reply-step}
 use Rattle.agreement_runs.proofs.Items.{one-form, one-passes, one-value, two-form, two-passes, two-aborted, two-response, two-first, two-second}
 use Rattle.agreement_runs.proofs.ListedEarly.{oA, oB, v₁, v₂, iA, iB, kA, kB, fA, fB, gA, gB, a₀, a₁, a₂, a₃, b₀, b₁}
@@ -39,7 +41,7 @@ module _ (keys : List ℕ) (L : length keys ≡ 256) where
 
   pub passes₂ : replyNo (a₁ keys) (replyBytes (iB keys ∷ iA keys ∷ [])) 80 ≡ 0
   unfolding itemOk opOk allowed sameOp itemChainOk
-  passes₂ = two-passes (a₁ keys) (iB keys) (iA keys) (fB keys) (fA keys) (sa₁ .range) refl (item-passes (a₁ keys) 0 oB 1 refl refl) (item-passes (a₁ keys) 1 oA 1 refl refl) refl refl
+  passes₂ = two-passes (a₁ keys) (iB keys) (iA keys) (fB keys) (fA keys) (sa₁ .range) refl (item-passes (a₁ keys) 2 0 oB 1 refl refl) (item-passes (a₁ keys) 2 1 oA 1 refl refl) refl refl
 
   -- the first item is its own and has no status, so it is passed over
   fine₂ : isAborted (a₁ keys) (replyBytes (iB keys ∷ iA keys ∷ [])) ≡ false
@@ -57,18 +59,18 @@ module _ (keys : List ℕ) (L : length keys ≡ 256) where
   sa₂ : Sound (a₂ keys)
   sa₂ = sound-after (a₁ keys) (receive 1 (replyBytes (iB keys ∷ iA keys ∷ [])) 80) sa₁ step₂
 
-  pub a₁-zero : valueAt 0 (a₁ keys .chain) ≡ replicate 32 0
+  pub a₁-zero : valueAt (a₁ keys .confirmed) 0 (a₁ keys .chain) ≡ replicate 32 0
   a₁-zero = first-value
 
-  pub a₃-zero : valueAt 0 (a₃ keys .chain) ≡ replicate 32 0
+  pub a₃-zero : valueAt (a₃ keys .confirmed) 0 (a₃ keys .chain) ≡ replicate 32 0
   unfolding repliedReplica
   a₃-zero = values-stay (a₁ keys) (replyBytes (iB keys ∷ iA keys ∷ [])) 80 passes₂ (sa₁ .sized .chain) 0 (omega arith) ∙ a₁-zero
 
-  a₃-one : valueAt 1 (a₃ keys .chain) ≡ v₁
+  a₃-one : valueAt (a₃ keys .confirmed) 1 (a₃ keys .chain) ≡ v₁
   unfolding repliedReplica
   a₃-one = two-first (a₁ keys) (iB keys) (iA keys) (fB keys) (fA keys) passes₂ (sa₁ .sized) ∙ ap (λ (v : List ℕ). linkValue v oB 1 1) a₁-zero
 
-  pub a₂-two : valueAt 2 (chainAfter (a₁ keys) (replyBytes (iB keys ∷ iA keys ∷ []))) ≡ v₂
+  pub a₂-two : valueAt (a₁ keys .confirmed) 2 (chainAfter (a₁ keys) (replyBytes (iB keys ∷ iA keys ∷ []))) ≡ v₂
   a₂-two = two-second (a₁ keys) (iB keys) (iA keys) (fB keys) (fA keys) passes₂ (sa₁ .sized) ∙ ap (λ (v : List ℕ). linkValue (linkValue v oB 1 1) oA 2 1) a₁-zero
 
   pub step₃ : stepOf (a₂ keys) (invoke 1 4 0 9 43) ≡ madeEvent 1 (a₂ keys) 4 0 9 .step
@@ -79,18 +81,18 @@ module _ (keys : List ℕ) (L : length keys ≡ 256) where
   unfolding repliedReplica
   sa₃ = sound-after (a₂ keys) (invoke 1 4 0 9 43) sa₂ step₃
 
-  held₄ : same (linkValue (valueAt 0 (a₃ keys .chain)) oB 1 1) (valueAt 1 (a₃ keys .chain)) ≡ true
+  held₄ : same (linkValue (valueAt (a₃ keys .confirmed) 0 (a₃ keys .chain)) oB 1 1) (valueAt (a₃ keys .confirmed) 1 (a₃ keys .chain)) ≡ true
   held₄ = (λ t. same (linkValue (a₃-zero t) oB 1 1) (a₃-one t)) ∙ same-self v₁
 
   pub passes₄ : replyNo (a₃ keys) (replyBytes (iB keys ∷ [])) 80 ≡ 0
   unfolding repliedReplica itemOk opOk allowed sameOp itemChainOk itemValue
-  passes₄ = one-passes (a₃ keys) (iB keys) (fB keys) (sa₃ .range) refl (item-passes (a₃ keys) 0 oB 1 refl held₄) refl refl
+  passes₄ = one-passes (a₃ keys) (iB keys) (fB keys) (sa₃ .range) refl (item-passes (a₃ keys) 1 0 oB 1 refl held₄) refl refl
 
   pub step₄ : stepOf (a₃ keys) (receive 1 (replyBytes (iB keys ∷ [])) 80) ≡ replyEvent 1 (a₃ keys) (iB keys ∷ []) 1 false 1 .step
   unfolding repliedReplica replyBytes isAborted lastResponse sortTo conflicts interleavings some responses sameResponses responseOn response runAll
   step₄ = reply-step 1 (a₃ keys) (iB keys ∷ []) 1 false 1 (one-form (a₃ keys) (iB keys) (fB keys)) passes₄ refl refl refl
 
-  pub a₄-one : valueAt 1 (chainAfter (a₃ keys) (replyBytes (iB keys ∷ []))) ≡ v₁
+  pub a₄-one : valueAt (a₃ keys .confirmed) 1 (chainAfter (a₃ keys) (replyBytes (iB keys ∷ []))) ≡ v₁
   unfolding repliedReplica
   a₄-one = one-value (a₃ keys) (iB keys) (fB keys) passes₄ (sa₃ .sized) ∙ ap (λ (v : List ℕ). linkValue v oB 1 1) a₃-zero
 
@@ -98,7 +100,7 @@ module _ (keys : List ℕ) (L : length keys ≡ 256) where
   sb₀ : Sound (b₀ keys)
   sb₀ = open-sound 2 keys (opens keys 2 L refl)
 
-  pub b₀-zero : valueAt 0 (b₀ keys .chain) ≡ replicate 32 0
+  pub b₀-zero : valueAt (b₀ keys .confirmed) 0 (b₀ keys .chain) ≡ replicate 32 0
   b₀-zero = first-value
 
   next₅ : nextValue (b₀ keys) (kB keys) ≡ v₁
@@ -111,7 +113,7 @@ module _ (keys : List ℕ) (L : length keys ≡ 256) where
   sb₁ : Sound (b₁ keys)
   sb₁ = sound-after (b₀ keys) (receive 2 (broadcastBytes (kB keys)) 0) sb₀ step₅
 
-  pub b₁-zero : valueAt 0 (b₁ keys .chain) ≡ v₁
+  pub b₁-zero : valueAt (b₁ keys .confirmed) 0 (b₁ keys .chain) ≡ v₁
   b₁-zero = value-first (b₀ keys) (kB keys) (sb₀ .sized .chain) ∙ next₅
 
   next₆ : nextValue (b₁ keys) (kA keys) ≡ v₂

@@ -14,12 +14,13 @@ use Rattle.message.specs.Readers.{CommitFits}
 use Rattle.message.specs.Message.{broadcastBytes, marked, isReply}
 use Rattle.message.proofs.Laws.{reply-mark}
 use Rattle.round_trips.proofs.Messages.{broadcast-yes, broadcast-read}
-use Rattle.verify.specs.Verify.{commitTag, commitTagOk, valueAt}
+use Rattle.verify.specs.Verify.{commitTag, commitTagOk}
 use Rattle.verify.proofs.Laws.{commit-tag-length}
 use Rattle.replica.specs.declared.Replica.{Replica}
 use Rattle.replica.specs.Outcome.{opened, confirmed}
 use Rattle.replica.specs.Replica.{After, Step, inRange, freshReplica, zeroReplica, refuse}
-use Rattle.client_invoke.specs.Invoke.{openNo, openStep, invokeNo}
+use Rattle.client_open.specs.Open.{openNo, openStep}
+use Rattle.client_invoke.specs.Invoke.{invokeNo}
 use Rattle.client_broadcast.specs.Broadcast.{commitOk, seqOk, nextValue, digestOk, broadcastNo, confirmedReplica, broadcastStep}
 use Rattle.client_broadcast.proofs.Laws.{broadcast-goes}
 use Rattle.client_reply.specs.Reply.{replyStep}
@@ -43,10 +44,6 @@ start-is keys n z =
 pub opens : (keys : List ℕ) (n : ℕ) → length keys ≡ 256 → (leb 1 n && leb n 8) ≡ true → openNo n keys ≡ 0
 unfolding openNo
 opens keys n l a = rw (a, eq-eqb _ _ l)
-
-pub first-value : valueAt 0 (replicate 1056 0) ≡ replicate 32 0
-unfolding valueAt
-first-value = refl
 
 -- ---- a replica in range stays so
 step-sound : (r : Replica) (c : Call) → Sound r → Sound (stepOf r c .after .replica)

@@ -10,7 +10,8 @@ use Rattle.message.specs.declared.Item.{Item}
 use Rattle.message.specs.Readers.{ItemFits}
 use Rattle.message.specs.Message.{commitString, replyBytes, isReply, replyCount}
 use Rattle.message.proofs.Laws.{commit-tagged}
-use Rattle.verify.specs.Verify.{invokeTag, commitTag, itemTagOk, valueAt}
+use Rattle.verify.specs.Verify.{invokeTag, commitTag, itemTagOk}
+use Rattle.replica.specs.Places.{valueAt}
 use Rattle.verify.proofs.Laws.{invoke-tag-length}
 use Rattle.replica.specs.declared.Replica.{Replica}
 use Rattle.replica.specs.Replica.{Step}
@@ -30,10 +31,10 @@ pub item-fits : (keys : List ℕ) (e : Operation) (a : ℕ) → e .count < 2 ^ 3
 item-fits keys e a c = record { count = c; tag = invoke-tag-length keys e a }
 
 -- its checks, where no chain value is held there, or the one that it gives
-pub item-passes : (r : Replica) (k : ℕ) (e : Operation) (a : ℕ) → itemOk (r .confirmed) k (itemBy (r .keys) e a) ≡ true
-    → itemChainOk (r .confirmed) (r .held) (r .chain) k (itemBy (r .keys) e a) ≡ true → Yes (itemChecks r k (itemBy (r .keys) e a))
+pub item-passes : (r : Replica) (n k : ℕ) (e : Operation) (a : ℕ) → itemOk (r .confirmed) k (itemBy (r .keys) e a) ≡ true
+    → itemChainOk (r .confirmed) (r .held) (r .chain) k (itemBy (r .keys) e a) ≡ true → Yes (itemChecks r n k (itemBy (r .keys) e a))
 unfolding itemTagOk
-item-passes r k e a p q = (p, (same-self (invokeTag (r .keys) e a), (q, tt)))
+item-passes r n k e a p q = (p, (same-self (invokeTag (r .keys) e a), (q, tt)))
 
 -- ---- the event: the reply of these items, of which there are n, taken with room for a commit
 abbrev pub repliedStep : Replica → List ℕ → ℕ → Bool → Response → Step
@@ -57,12 +58,12 @@ reply-step i r is n a x f z c d e =
     ∙ (λ t. record { after = record { replica = repliedReplica r (chainAfter r m) (c t) (d t); says = saysOf (d t) (e t) (r .confirmed + c t) }; wrote = commitMessage r (chainAfter r m) (c t) (d t) })
 
 -- it writes its commit's string, with the tag
-pub reply-wrote : (r : Replica) (m : List ℕ) (n : ℕ) (a : Bool) (d : List ℕ) → valueAt n (chainAfter r m) ≡ d
+pub reply-wrote : (r : Replica) (m : List ℕ) (n : ℕ) (a : Bool) (d : List ℕ) → valueAt (r .confirmed) n (chainAfter r m) ≡ d
     → commitMessage r (chainAfter r m) n a
     ≡ commitString (r .current) (r .number) (r .confirmed + n) d (status a)
     ++ tagBy (r .keys) (r .number) (commitString (r .current) (r .number) (r .confirmed + n) d (status a))
 unfolding commitMessage commitTag tagBy
 reply-wrote r m n a d q =
     let p = r .confirmed + n in
-    sym (commit-tagged (record { op = r .current; author = r .number; seq = p; digest = valueAt n (chainAfter r m); status = status a; tag = commitTag (r .keys) (r .current) (r .number) p (valueAt n (chainAfter r m)) (status a) }))
+    sym (commit-tagged (record { op = r .current; author = r .number; seq = p; digest = valueAt (r .confirmed) n (chainAfter r m); status = status a; tag = commitTag (r .keys) (r .current) (r .number) p (valueAt (r .confirmed) n (chainAfter r m)) (status a) }))
     ∙ ap (λ (d : List ℕ). commitString (r .current) (r .number) p d (status a) ++ tagBy (r .keys) (r .number) (commitString (r .current) (r .number) p d (status a))) q

@@ -7,7 +7,10 @@ use native.Mathlib.Omega.{arith}
 use lib.ListN.{getD, replicate}
 use Rattle.slices.specs.Bytes.{bigEndian, wordAt}
 use Rattle.sha256_core.specs.Round.{kTable, roundOf, roundAt, addState}
-use Rattle.sha256.specs.Sha256.{padding, pad, wordsAt, blockCount, initial, nextWord, schedule, rounds, compressOf, hashFrom, bytesOf, sha256}
+use Rattle.sha256_pad.specs.Padding.{padding, pad}
+use Rattle.sha256_block.specs.Block.{wordsAt, nextWord, schedule, rounds, compressOf}
+use Rattle.sha256_bytes.specs.Bytes.{bytesOf}
+use Rattle.sha256.specs.Sha256.{blockCount, initial, hashFrom, sha256}
 use Rattle.operation.specs.declared.Operation.{Operation}
 use Rattle.operation.specs.Operation.{opBytes}
 use Rattle.message.specs.declared.Item.{Item}

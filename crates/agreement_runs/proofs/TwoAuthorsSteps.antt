@@ -8,7 +8,9 @@ use lib.ListN.{length, replicate}
 use Rattle.operation.specs.Operation.{opOk, allowed, sameOp, value, response, after, responseOn, runAll}
 use Rattle.conflict.specs.Conflict.{responses, insertions, interleavings, sameResponses, some, conflicts}
 use Rattle.message.specs.Message.{replyBytes, broadcastBytes}
-use Rattle.verify.specs.Verify.{valueAt, linkValue}
+use Rattle.verify.specs.Verify.{linkValue}
+use Rattle.replica.specs.Places.{valueAt}
+use Rattle.replica.proofs.Places.{first-value}
 use Rattle.replica.proofs.Laws.{Sound}
 use Rattle.client_broadcast.specs.Broadcast.{commitOk, nextValue, confirmedReplica}
 use Rattle.client_reply_check.specs.ReplyChecks.{itemOk, itemChainOk, replyNo}
@@ -18,7 +20,7 @@ use Rattle.client_laws.proofs.Chain.{values-stay}
 use Rattle.client_laws.proofs.Broadcast.{next-held, next-none, value-first, value-moves}
 use Rattle.client_laws.proofs.Passes.{invoke-passes}
 use Rattle.agreement.specs.WholeRuns.{invoke, receive, stepOf}
-use Rattle.agreement_runs.proofs.Plays.{opens, first-value, sound-after, madeEvent, made-step, confirmEvent, confirm-passes, confirm-step}
+use Rattle.agreement_runs.proofs.Plays.{opens, sound-after, madeEvent, made-step, confirmEvent, confirm-passes, confirm-step}
 use Rattle.agreement_runs.proofs.Replies.{item-passes, replyEvent, reply-step}
 use Rattle.agreement_runs.proofs.Items.{one-form, one-passes, one-value, two-form, two-passes, two-aborted, two-response, two-first, two-second}
 use Rattle.agreement_runs.proofs.TwoAuthors.{o₁, o₂, v₁, v₂, i₁, i₂, k₁, k₂, f₁, f₂, g₁, g₂, a₀, a₁, a₂, a₃, b₀, b₁, b₂, b₃}
@@ -37,7 +39,7 @@ module _ (keys : List ℕ) (L : length keys ≡ 256) where
 
   pub passes₁ : replyNo (a₁ keys) (replyBytes (i₁ keys ∷ [])) 80 ≡ 0
   unfolding itemOk opOk allowed sameOp itemChainOk
-  passes₁ = one-passes (a₁ keys) (i₁ keys) (f₁ keys) (sa₁ .range) refl (item-passes (a₁ keys) 0 o₁ 1 refl refl) refl refl
+  passes₁ = one-passes (a₁ keys) (i₁ keys) (f₁ keys) (sa₁ .range) refl (item-passes (a₁ keys) 1 0 o₁ 1 refl refl) refl refl
 
   pub step₂ : stepOf (a₁ keys) (receive 1 (replyBytes (i₁ keys ∷ [])) 80) ≡ replyEvent 1 (a₁ keys) (i₁ keys ∷ []) 1 false 1 .step
   unfolding replyBytes isAborted lastResponse sortTo conflicts interleavings some responses sameResponses responseOn response runAll
@@ -47,13 +49,13 @@ module _ (keys : List ℕ) (L : length keys ≡ 256) where
   sa₂ = sound-after (a₁ keys) (receive 1 (replyBytes (i₁ keys ∷ [])) 80) sa₁ step₂
 
   -- the chain: value 0 is zero, value 1 is v₁
-  pub a₁-zero : valueAt 0 (a₁ keys .chain) ≡ replicate 32 0
+  pub a₁-zero : valueAt (a₁ keys .confirmed) 0 (a₁ keys .chain) ≡ replicate 32 0
   a₁-zero = first-value
 
-  pub a₂-one : valueAt 1 (chainAfter (a₁ keys) (replyBytes (i₁ keys ∷ []))) ≡ v₁
+  pub a₂-one : valueAt (a₁ keys .confirmed) 1 (chainAfter (a₁ keys) (replyBytes (i₁ keys ∷ []))) ≡ v₁
   a₂-one = one-value (a₁ keys) (i₁ keys) (f₁ keys) passes₁ (sa₁ .sized) ∙ ap (λ (v : List ℕ). linkValue v o₁ 1 1) a₁-zero
 
-  pub a₂-zero : valueAt 0 (chainAfter (a₁ keys) (replyBytes (i₁ keys ∷ []))) ≡ replicate 32 0
+  pub a₂-zero : valueAt (a₁ keys .confirmed) 0 (chainAfter (a₁ keys) (replyBytes (i₁ keys ∷ []))) ≡ replicate 32 0
   a₂-zero = values-stay (a₁ keys) (replyBytes (i₁ keys ∷ [])) 80 passes₁ (sa₁ .sized .chain) 0 (omega arith) ∙ a₁-zero
 
   next₅ : nextValue (a₂ keys) (k₁ keys) ≡ v₁
@@ -67,7 +69,7 @@ module _ (keys : List ℕ) (L : length keys ≡ 256) where
   sa₃ : Sound (a₃ keys)
   sa₃ = sound-after (a₂ keys) (receive 1 (broadcastBytes (k₁ keys)) 0) sa₂ step₅
 
-  pub a₃-zero : valueAt 0 (a₃ keys .chain) ≡ v₁
+  pub a₃-zero : valueAt (a₃ keys .confirmed) 0 (a₃ keys .chain) ≡ v₁
   a₃-zero = value-first (a₂ keys) (k₁ keys) (sa₂ .sized .chain) ∙ next₅
 
   next₇ : nextValue (a₃ keys) (k₂ keys) ≡ v₂
@@ -91,7 +93,7 @@ module _ (keys : List ℕ) (L : length keys ≡ 256) where
 
   pub passes₂ : replyNo (b₁ keys) (replyBytes (i₁ keys ∷ i₂ keys ∷ [])) 80 ≡ 0
   unfolding itemOk opOk allowed sameOp itemChainOk
-  passes₂ = two-passes (b₁ keys) (i₁ keys) (i₂ keys) (f₁ keys) (f₂ keys) (sb₁ .range) refl (item-passes (b₁ keys) 0 o₁ 1 refl refl) (item-passes (b₁ keys) 1 o₂ 2 refl refl) refl refl
+  passes₂ = two-passes (b₁ keys) (i₁ keys) (i₂ keys) (f₁ keys) (f₂ keys) (sb₁ .range) refl (item-passes (b₁ keys) 2 0 o₁ 1 refl refl) (item-passes (b₁ keys) 2 1 o₂ 2 refl refl) refl refl
 
   aborts : isAborted (b₁ keys) (replyBytes (i₁ keys ∷ i₂ keys ∷ [])) ≡ true
   unfolding sortItem conflicts interleavings insertions some responses sameResponses responseOn response after value flatMap
@@ -108,16 +110,16 @@ module _ (keys : List ℕ) (L : length keys ≡ 256) where
   sb₂ : Sound (b₂ keys)
   sb₂ = sound-after (b₁ keys) (receive 2 (replyBytes (i₁ keys ∷ i₂ keys ∷ [])) 80) sb₁ step₄
 
-  pub b₁-zero : valueAt 0 (b₁ keys .chain) ≡ replicate 32 0
+  pub b₁-zero : valueAt (b₁ keys .confirmed) 0 (b₁ keys .chain) ≡ replicate 32 0
   b₁-zero = first-value
 
-  pub b₂-zero : valueAt 0 (chainAfter (b₁ keys) (replyBytes (i₁ keys ∷ i₂ keys ∷ []))) ≡ replicate 32 0
+  pub b₂-zero : valueAt (b₁ keys .confirmed) 0 (chainAfter (b₁ keys) (replyBytes (i₁ keys ∷ i₂ keys ∷ []))) ≡ replicate 32 0
   b₂-zero = values-stay (b₁ keys) (replyBytes (i₁ keys ∷ i₂ keys ∷ [])) 80 passes₂ (sb₁ .sized .chain) 0 (omega arith) ∙ b₁-zero
 
-  b₂-one : valueAt 1 (chainAfter (b₁ keys) (replyBytes (i₁ keys ∷ i₂ keys ∷ []))) ≡ v₁
+  b₂-one : valueAt (b₁ keys .confirmed) 1 (chainAfter (b₁ keys) (replyBytes (i₁ keys ∷ i₂ keys ∷ []))) ≡ v₁
   b₂-one = two-first (b₁ keys) (i₁ keys) (i₂ keys) (f₁ keys) (f₂ keys) passes₂ (sb₁ .sized) ∙ ap (λ (v : List ℕ). linkValue v o₁ 1 1) b₁-zero
 
-  pub b₂-two : valueAt 2 (chainAfter (b₁ keys) (replyBytes (i₁ keys ∷ i₂ keys ∷ []))) ≡ v₂
+  pub b₂-two : valueAt (b₁ keys .confirmed) 2 (chainAfter (b₁ keys) (replyBytes (i₁ keys ∷ i₂ keys ∷ []))) ≡ v₂
   b₂-two = two-second (b₁ keys) (i₁ keys) (i₂ keys) (f₁ keys) (f₂ keys) passes₂ (sb₁ .sized) ∙ ap (λ (v : List ℕ). linkValue (linkValue v o₁ 1 1) o₂ 2 2) b₁-zero
 
   next₆ : nextValue (b₂ keys) (k₁ keys) ≡ v₁
@@ -131,7 +133,7 @@ module _ (keys : List ℕ) (L : length keys ≡ 256) where
   sb₃ : Sound (b₃ keys)
   sb₃ = sound-after (b₂ keys) (receive 2 (broadcastBytes (k₁ keys)) 0) sb₂ step₆
 
-  pub b₃-zero : valueAt 0 (b₃ keys .chain) ≡ v₁
+  pub b₃-zero : valueAt (b₃ keys .confirmed) 0 (b₃ keys .chain) ≡ v₁
   b₃-zero = value-first (b₂ keys) (k₁ keys) (sb₂ .sized .chain) ∙ next₆
 
   next₈ : nextValue (b₃ keys) (k₂ keys) ≡ v₂

@@ -2,7 +2,8 @@
 ghost use mathlib.Core.Path.{_≡_};
 ghost use lib.ListN.{length};
 ghost use Rattle.replica.specs.Replica.{afterOf, over};
-ghost use Rattle.client_invoke.specs.Invoke.{openStep, invokeStep};
+ghost use Rattle.client_open.specs.Open.{openStep};
+ghost use Rattle.client_invoke.specs.Invoke.{invokeStep};
 ghost use Rattle.client.specs.Receive.{receiveStep};
 use replica::Replica;
 use replica::Stepped;
@@ -11,7 +12,7 @@ use replica::Stepped;
 pub fn open(number: u8, keys: &[u8]) -> Stepped
     ensures { λ r. ⌜ afterOf r ≡ openStep number (now (keys .entry)) ⌝ }
 {
-    client_invoke::open(number, keys)
+    client_open::open(number, keys)
 }
 
 // Invokes an operation; the invoke goes to the front of `out`.

@@ -7,6 +7,7 @@ use lib.Dec.{leb, eqb}
 use lib.ListN.{length}
 use native.Mathlib.Omega.{arith}
 use borrow.Author.Tests.{leb-true, eqb-true}
+use Rattle.slices.proofs.Laws.{same-yes}
 use Rattle.operation.specs.Operation.{opOk}
 use Rattle.message.specs.declared.Commit.{Commit}
 use Rattle.message.specs.Message.{isBroadcast, commitOf}
@@ -17,7 +18,7 @@ use Rattle.replica.specs.Outcome.{isStop, confirmed}
 use Rattle.checks.specs.Checks.{firstNo}
 use Rattle.checks.proofs.Laws.{first-stays, all-yes, first-among, every-yes, and-yes}
 use Rattle.replica.specs.Replica.{stop, inRange}
-use Rattle.client_broadcast.specs.Broadcast.{commitOk, digestOk, formChecks, contentChecks, proofChecks, broadcastNo, confirmedReplica, broadcastStep}
+use Rattle.client_broadcast.specs.Broadcast.{commitOk, nextValue, digestOk, formChecks, contentChecks, proofChecks, broadcastNo, confirmedReplica, broadcastStep}
 
 -- ---- the stages of the checks
 module _ (r : Replica) (m : List ℕ) where
@@ -65,6 +66,11 @@ pub content-author : (r : Replica) (k : Commit) → firstNo 0 (contentChecks r k
 content-author r k e =
     let a = commit-allowed k (all-yes 0 (contentChecks r k) (refl, (refl, tt)) e .1 .0) in
     (a .low, a .high)
+
+-- a digest that passes check 23 is the next chain value
+pub next-is : (r : Replica) (k : Commit) → digestOk r k ≡ true → k .digest ≡ nextValue r k
+unfolding digestOk
+next-is r k e = same-yes (k .digest) (nextValue r k) e
 
 -- what a successful broadcast implies
 pub record Confirmed (r : Replica) (m : List ℕ) : Type 0 where

@@ -2,32 +2,33 @@
 use Prim.Native.Nat.{ℕ, _+_, _-_}
 use mathlib.Core.List.{List, [], _∷_, _++_}
 use mathlib.Core.Bool.{Bool, true, cond, _&&_}
-use lib.ListN.{drop, replicate}
 use lib.Dec.{leb, eqb}
 use Rattle.slices.specs.Bytes.{same}
 use Rattle.operation.specs.Operation.{opOk, effect}
 use Rattle.message.specs.declared.Commit.{Commit}
+use Rattle.message.specs.Layout.{clientCount, maxSeq}
 use Rattle.message.specs.Message.{isBroadcast, commitOf}
-use Rattle.verify.specs.Verify.{commitTagOk, valueAt, linkValue}
+use Rattle.verify.specs.Verify.{commitTagOk, linkValue}
 use Rattle.replica.specs.declared.Replica.{Replica}
 use Rattle.replica.specs.Outcome.{confirmed}
+use Rattle.replica.specs.Places.{valueAt, confirmValue, confirmStatus}
 use Rattle.checks.specs.Checks.{every, firstNo}
 use Rattle.replica.specs.Replica.{After, readyChecks, stop}
 
 -- 21: "entry, author, status allowed?"
 unfoldable pub commitOk : Commit → Bool
-commitOk k = every true (opOk (k .op) ∷ leb 1 (k .author) ∷ leb (k .author) 8 ∷ leb (k .status) 1 ∷ [])
+commitOk k = every true (opOk (k .op) ∷ leb 1 (k .author) ∷ leb (k .author) clientCount ∷ leb (k .status) 1 ∷ [])
 
 -- 25: "Place c + 1 and at most 1,000,000?"
 abbrev pub seqOk : Replica → Commit → Bool
-seqOk r k = eqb (k .seq) (r .confirmed + 1) && leb (k .seq) 1000000
+seqOk r k = eqb (k .seq) (r .confirmed + 1) && leb (k .seq) maxSeq
 
 -- "The chain value there is the held one, else it is worked out from that at c."
 unfoldable pub nextValue : Replica → Commit → List ℕ
 nextValue r k =
     cond (eqb (r .held) 0)
-    (linkValue (valueAt 0 (r .chain)) (k .op) (k .seq) (k .author))
-    (valueAt 1 (r .chain))
+    (linkValue (valueAt (r .confirmed) 0 (r .chain)) (k .op) (k .seq) (k .author))
+    (valueAt (r .confirmed) 1 (r .chain))
 
 -- 23: "Digest the chain value?"
 unfoldable pub digestOk : Replica → Commit → Bool
@@ -56,8 +57,8 @@ confirmedReplica r k =
       current = r .current;
       confirmed = r .confirmed + 1;
       held = r .held - 1;
-      chain = nextValue r k ++ drop 64 (r .chain) ++ replicate 32 0;
-      statuses = drop 1 (r .statuses) ++ (0 ∷ []);
+      chain = confirmValue (r .confirmed) (nextValue r k) (r .chain);
+      statuses = confirmStatus (r .confirmed) (r .statuses);
       cells = effect (eqb (k .status) 1) (k .op) (r .cells);
       halt = r .halt;
     }

@@ -1,12 +1,14 @@
 // Taking a broadcast. Definitions: specs/Broadcast.antt.
 ghost use mathlib.Core.Path.{_≡_};
 ghost use Prim.Native.Nat.{_+_, _-_, _<_, _≤_};
+ghost use mathlib.Core.Bool.{true};
 ghost use mathlib.Core.List.{_∷_, [], _++_};
 ghost use lib.ListN.{length, drop, replicate};
+ghost use Rattle.message.specs.Layout.{clientCount, maxSeq};
 ghost use Rattle.message.specs.Message.{commitOf};
 ghost use Rattle.checks.specs.Checks.{firstNo};
 ghost use Rattle.replica.specs.Replica.{afterOf};
-ghost use Rattle.client_broadcast.specs.Broadcast.{commitOk, seqOk, nextValue, formChecks, contentChecks, proofChecks, broadcastNo, confirmedReplica, broadcastStep};
+ghost use Rattle.client_broadcast.specs.Broadcast.{commitOk, seqOk, nextValue, digestOk, formChecks, contentChecks, proofChecks, broadcastNo, confirmedReplica, broadcastStep};
 use message::Commit;
 use replica::Event;
 use replica::Outcome;
@@ -17,13 +19,13 @@ fn commit_ok(k: Commit) -> bool
     ensures { λ r. ⌜ r ≡ commitOk k ⌝ }
 {
     let e = k.op;
-    operation::op_ok(e) & (1 <= k.author) & (k.author <= 8) & (k.status <= 1)
+    operation::op_ok(e) & (1 <= k.author) & (k.author <= message::CLIENTS) & (k.status <= 1)
 }
 
 fn seq_ok(r: Replica, k: Commit) -> bool
     ensures { λ q. ⌜ q ≡ seqOk r k ⌝ }
 {
-    (k.seq as u64 == r.confirmed as u64 + 1) & (k.seq <= 1000000)
+    (k.seq as u64 == r.confirmed as u64 + 1) & (k.seq <= message::MAX_SEQ)
 }
 
 // The chain value at the next sequence number.
@@ -33,10 +35,10 @@ fn next_value(r: Replica, k: Commit) -> [u8; 32]
     let chain = r.chain;
     let e = k.op;
     if r.held == 0 {
-        let v = verify::value_at(chain, 0);
+        let v = replica::value_at(r.confirmed, 0, chain);
         verify::link_value(v, e, k.seq, k.author)
     } else {
-        verify::value_at(chain, 1)
+        replica::value_at(r.confirmed, 1, chain)
     }
 }
 
@@ -56,7 +58,7 @@ fn content_check(r: Replica, k: Commit) -> u8
 
 // Tag and digest, once the content is allowed.
 fn proof_check(r: Replica, k: Commit) -> u8
-    requires { ⌜ (1 ≤ k .author) × (k .author ≤ 8) ⌝ }
+    requires { ⌜ (1 ≤ k .author) × (k .author ≤ clientCount) ⌝ }
     ensures { λ q. ⌜ q ≡ firstNo 0 (proofChecks r k) ⌝ }
 {
     let keys = r.keys;
@@ -74,7 +76,7 @@ fn broadcast_check(r: Replica, m: &[u8]) -> u8
     if form != 0 {
         return form;
     }
-    let k = message::read_commit(m);
+    let k = message::commit_of(m);
     let content = content_check(r, k);
     if content != 0 {
         return content;
@@ -106,15 +108,17 @@ fn less_one(n: u32) -> u32
     if n == 0 { 0 } else { n - 1 }
 }
 
+// The state after a broadcast whose digest is the next chain value.
 fn confirmed_replica(r: Replica, k: Commit) -> Replica
-    requires { ⌜ r .confirmed < 1000000 ⌝ }
+    requires { ⌜ (r .confirmed < maxSeq) × (digestOk r k ≡ true) ⌝ }
     ensures { λ q. ⌜ q ≡ confirmedReplica r k ⌝ }
 {
     let e = k.op;
+    let next = k.digest;
     let old_chain = r.chain;
     let old_statuses = r.statuses;
     let old_cells = r.cells;
-    let chain = chain_shift(old_chain, next_value(r, k));
+    let chain = chain_shift(old_chain, next);
     let statuses = status_shift(old_statuses);
     let cells = operation::effect_on(k.status == 1, e, old_cells);
     let mut n = r;
@@ -134,7 +138,7 @@ pub fn broadcast(r: Replica, m: &[u8]) -> Stepped
     if no != 0 {
         return replica::stopped(r, no);
     }
-    let k = message::read_commit(m);
+    let k = message::commit_of(m);
     let after = confirmed_replica(r, k);
     Stepped {
         replica: after,

@@ -1,4 +1,4 @@
--- Laws of opening and invoking: what a success implies, and what each case comes to. Assumes nothing.
+-- Laws of invoking: what a success implies, and what each case comes to. Assumes nothing.
 use Prim.Native.Nat.{ℕ, _+_, _<_, _≤_}
 use mathlib.Core.Path.{_≡_, refl}
 use mathlib.Core.List.{List, _++_}
@@ -9,7 +9,7 @@ use borrow.Author.Tests.{leb-true, ltb-true, eqb-true}
 use Rattle.slices.specs.Bytes.{bigEndian}
 use Rattle.operation.specs.declared.Operation.{Operation}
 use Rattle.operation.specs.Operation.{allowed, opBytes}
-use Rattle.message.specs.Message.{invokeBytes, itemBytes}
+use Rattle.message.specs.Message.{invokeString, invokeBytes}
 use Rattle.verify.proofs.Laws.{invoke-tag-length}
 use Rattle.replica.specs.declared.Replica.{Replica}
 use Rattle.replica.specs.Outcome.{isStop, invoked}
@@ -22,7 +22,7 @@ pub record Invoked (r : Replica) (kind cell amount room : ℕ) : Type 0 where
   pub range : inRange r ≡ true
   pub clear : r .halt ≡ 0
   pub none : noCurrent (r .current) ≡ true
-  pub fine : allowed kind cell amount ≡ true
+  pub fine : allowed kind cell amount 0 ≡ true
   pub below : r .count < 1000000
   pub enough : 43 ≤ room
 
@@ -47,7 +47,7 @@ invoke-stop r kind cell amount room e =
 
 -- the message is 43 bytes long
 pub invoke-length : (r : Replica) (e : Operation) → length (invokeMessage r e) ≡ 43
-unfolding invokeMessage invokeBytes itemBytes opBytes bigEndian
+unfolding invokeMessage invokeBytes invokeString opBytes bigEndian
 invoke-length r e = rw (invoke-tag-length (r .keys) e (r .number))
 
 -- the two cases of an invoke

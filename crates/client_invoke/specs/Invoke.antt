@@ -1,33 +1,22 @@
--- Opening a client and invoking an operation. Document 01, "What a van does" (making an entry) and "The questions, in order".
+-- Invoking an operation. Document 01, "What a van does" (making an entry) and "The questions, in order".
 use Prim.Native.Nat.{ℕ, _+_}
 use mathlib.Core.List.{List, [], _∷_, _++_}
-use mathlib.Core.Bool.{Bool, cond, _&&_}
-use lib.ListN.{length}
+use mathlib.Core.Bool.{Bool, cond}
 use lib.Dec.{ltb, leb, eqb}
 use Rattle.operation.specs.declared.Operation.{Operation}
-use Rattle.operation.specs.Operation.{allowed}
+use Rattle.operation.specs.Operation.{maxCount, allowed}
+use Rattle.message.specs.Layout.{invokeLength}
 use Rattle.message.specs.Message.{invokeBytes}
 use Rattle.verify.specs.Verify.{invokeTag}
 use Rattle.replica.specs.declared.Replica.{Replica}
-use Rattle.replica.specs.Outcome.{opened, invoked}
+use Rattle.replica.specs.Outcome.{invoked}
 use Rattle.checks.specs.Checks.{firstNo}
-use Rattle.replica.specs.Replica.{After, Step, stopStep, noCurrent, readyChecks, refuse, freshReplica, zeroReplica}
+use Rattle.replica.specs.Replica.{After, Step, stopStep, noCurrent, readyChecks}
 
--- ---- opening: "van number 1 to 8? 1. Exactly 256 key bytes? 2. A refused opening gives an all-zero book."
-unfoldable pub openNo : ℕ → List ℕ → ℕ
-openNo n keys = firstNo 0 ((leb 1 n && leb n 8, 1) ∷ (eqb (length keys) 256, 2) ∷ [])
-
-unfoldable pub openStep : ℕ → List ℕ → After
-openStep n keys =
-    cond (eqb (openNo n keys) 0)
-    (record { replica = freshReplica n keys; says = opened })
-    (refuse zeroReplica (openNo n keys))
-
--- ---- invoking
--- after 8 and 3: "no entry in hand? 4. Kind, cell, amount allowed? 5. Own count below 1,000,000? 6. 43 bytes lent? 7."
+-- after 8 and 3: "no entry in hand? 4. Kind, cell, amount allowed? 5." (its last byte is zero) "Own count below 1,000,000? 6. 43 bytes lent? 7."
 abbrev pub invokeChecks : Replica → ℕ → ℕ → ℕ → ℕ → List (Bool × ℕ)
 invokeChecks r kind cell amount room =
-    readyChecks r ++ ((noCurrent (r .current), 4) ∷ (allowed kind cell amount, 5) ∷ (ltb (r .count) 1000000, 6) ∷ (leb 43 room, 7) ∷ [])
+    readyChecks r ++ ((noCurrent (r .current), 4) ∷ (allowed kind cell amount 0, 5) ∷ (ltb (r .count) maxCount, 6) ∷ (leb invokeLength room, 7) ∷ [])
 
 unfoldable pub invokeNo : Replica → ℕ → ℕ → ℕ → ℕ → ℕ
 invokeNo r kind cell amount room = firstNo 0 (invokeChecks r kind cell amount room)

@@ -1,38 +1,17 @@
-// Opening a client, and invoking an operation. Definitions: specs/Invoke.antt.
+// Invoking an operation. Definitions: specs/Invoke.antt.
 ghost use mathlib.Core.Path.{_≡_};
 ghost use Prim.Native.Nat.{_≤_};
 ghost use mathlib.Core.List.{_++_};
 ghost use lib.ListN.{length, drop};
+ghost use Rattle.message.specs.Layout.{clientCount, invokeLength};
 ghost use Rattle.replica.specs.Replica.{afterOf, over};
-ghost use Rattle.client_invoke.specs.Invoke.{openStep, invokeNo, invokedReplica, invokeMessage, invokeStep};
+ghost use Rattle.client_invoke.specs.Invoke.{invokeNo, invokedReplica, invokeMessage, invokeStep};
 use message::Item;
 use operation::Operation;
 use replica::Event;
 use replica::Outcome;
-use replica::Refusal;
 use replica::Replica;
 use replica::Stepped;
-
-// Opens a client (document 01: opening a van's book).
-pub fn open(number: u8, keys: &[u8]) -> Stepped
-    ensures { λ r. ⌜ afterOf r ≡ openStep number (now (keys .entry)) ⌝ }
-{
-    let zeros = [0u8; 256];
-    if (1 <= number) & (number <= 8) {
-        if keys.len() == 256 {
-            let mut k = [0u8; 256];
-            slices::copy_to(&mut k, 0, keys);
-            Stepped {
-                replica: replica::fresh(number, k),
-                outcome: Outcome::Success(Event::Opened),
-            }
-        } else {
-            replica::refused(replica::fresh(0, zeros), Refusal::Keys)
-        }
-    } else {
-        replica::refused(replica::fresh(0, zeros), Refusal::Number)
-    }
-}
 
 // The checks of an invoke, in their order.
 fn invoke_check(r: Replica, kind: u8, cell: u8, amount: u8, room: usize) -> u8
@@ -42,9 +21,9 @@ fn invoke_check(r: Replica, kind: u8, cell: u8, amount: u8, room: usize) -> u8
     let count = r.count;
     let q = replica::ready(r);
     let q = checks::also(q, replica::no_current(current), 4);
-    let q = checks::also(q, operation::is_allowed(kind, cell, amount), 5);
-    let q = checks::also(q, count < 1000000, 6);
-    checks::also(q, 43 <= room, 7)
+    let q = checks::also(q, operation::is_allowed(kind, cell, amount, 0), 5);
+    let q = checks::also(q, count < operation::MAX_COUNT, 6);
+    checks::also(q, message::INVOKE_LENGTH <= room, 7)
 }
 
 fn invoked_replica(r: Replica, e: Operation) -> Replica
@@ -58,8 +37,8 @@ fn invoked_replica(r: Replica, e: Operation) -> Replica
 
 // Writes the invoke of an operation.
 fn write_message(r: Replica, e: Operation, out: &mut [u8])
-    requires { ⌜ (1 ≤ r .number) × (r .number ≤ 8) × (43 ≤ length (now out)) ⌝ }
-    ensures { λ _. ⌜ now (out .exit) ≡ invokeMessage r e ++ drop 43 (now (out .entry)) ⌝ }
+    requires { ⌜ (1 ≤ r .number) × (r .number ≤ clientCount) × (invokeLength ≤ length (now out)) ⌝ }
+    ensures { λ _. ⌜ now (out .exit) ≡ invokeMessage r e ++ drop invokeLength (now (out .entry)) ⌝ }
 {
     let keys = r.keys;
     let tag = verify::invoke_tag(keys, e, r.number);

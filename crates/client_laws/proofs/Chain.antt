@@ -1,25 +1,26 @@
 -- What a successful reply implies of each item, and how the chain held afterwards links. Assumes nothing.
-use Prim.Native.Nat.{ℕ, zero, suc, _+_, _-_, _*_, _<_, _≤_}
+use Prim.Native.Nat.{ℕ, zero, suc, _+_, _-_, _<_, _≤_}
 use mathlib.Core.Path.{_≡_, refl, sym, ap, _∙_}
 use mathlib.Core.Logic.{_⊎_, inl, inr, ⊎-elim}
-use mathlib.Core.List.{List, _++_, append-assoc}
+use mathlib.Core.List.{List}
 use mathlib.Core.Bool.{Bool, true, false}
 use lib.Dec.{ltb, eqb}
-use lib.ListN.{length, drop, take, length-take, take-append-drop}
-use lib.Seq.{take-at, drop-at}
+use lib.ListN.{length}
 use native.Mathlib.Omega.{arith}
 use native.Mathlib.Numerals.{add-one}
 use native.Mathlib.Nat.{eq-or-lt-of-le, le-of-suc-le-suc}
 use borrow.Author.Tests.{eqb-true, lt-ltb, le-ltb, ltb-true, ltb-false}
-use Rattle.slices.specs.Bytes.{put, same}
-use Rattle.slices.proofs.Laws.{and-yes, same-yes, part-left, put-length}
+use Rattle.slices.specs.Bytes.{same}
+use Rattle.slices.proofs.Laws.{and-yes, same-yes}
 use Rattle.operation.specs.declared.Operation.{Operation}
 use Rattle.operation.specs.Operation.{sameOp}
 use Rattle.message.specs.declared.Item.{Item}
 use Rattle.message.specs.Message.{replyCount, replyItem}
-use Rattle.verify.specs.Verify.{invokeTag, itemTagOk, valueAt}
+use Rattle.verify.specs.Verify.{invokeTag, itemTagOk}
 use Rattle.verify.proofs.Laws.{link-length}
 use Rattle.replica.specs.declared.Replica.{Replica}
+use Rattle.replica.specs.Places.{valueAt, holdValue}
+use Rattle.replica.proofs.Places.{hold-length, value-put, value-kept}
 use Rattle.checks.specs.Checks.{firstNo}
 use Rattle.checks.proofs.Laws.{Yes, all-yes, first-append}
 use Rattle.client_reply.specs.Reply.{chainItem, chainTo, chainAfter}
@@ -54,46 +55,22 @@ same-op-yes e f h =
     z
 
 -- where no item has a no, each check of each item has a yes
-pub items-yes : (r : Replica) (m : List ℕ) (n : ℕ) → firstNo 0 (itemsChecks r m n) ≡ 0 → (k : ℕ) → k < n → Yes (itemChecks r k (replyItem m k))
+pub items-yes : (r : Replica) (m : List ℕ) (n : ℕ) → firstNo 0 (itemsChecks r m n) ≡ 0 → (k : ℕ) → k < n → Yes (itemChecks r (replyCount m) k (replyItem m k))
 unfolding itemsChecks
 items-yes r m zero e k h = absurd (omega arith)
 items-yes r m (suc n) e k h =
-    let qs = itemChecks r n (replyItem m n) in
+    let qs = itemChecks r (replyCount m) n (replyItem m n) in
     let y = all-yes (firstNo 0 (itemsChecks r m n)) qs (refl, (refl, (refl, tt))) (sym (first-append 0 (itemsChecks r m n) qs) ∙ e) in
     ⊎-elim (λ (q : k ≡ n). rw q (y .1)) (λ (l : k < n). items-yes r m n (y .0) k l) (eq-or-lt-of-le (le-of-suc-le-suc h))
-
--- ---- values of a chain into which one is put
-module _ (chain v : List ℕ) (i : ℕ) (l : length v ≡ 32) (h : i * 32 + 32 ≤ length chain) where
-  before-length : length (take (i * 32) chain) ≡ i * 32
-  before-length = simp length-take (omega arith)
-
-  pub value-kept : (j : ℕ) → j < i → valueAt j (put chain (i * 32) v) ≡ valueAt j chain
-  unfolding valueAt
-  value-kept j g =
-      let p = take (i * 32) chain in
-      let a : j * 32 + 32 ≤ length p = omega (arith, before-length) in
-      ap (λ (z : List ℕ). take 32 (drop (j * 32) z)) (append-assoc p v (drop (i * 32 + length v) chain))
-      ∙ part-left 32 (j * 32) p (v ++ drop (i * 32 + length v) chain) a
-      ∙ sym (part-left 32 (j * 32) p (drop (i * 32) chain) a)
-      ∙ ap (λ (z : List ℕ). take 32 (drop (j * 32) z)) (take-append-drop (i * 32) chain)
-
-  pub value-put : valueAt i (put chain (i * 32) v) ≡ v
-  unfolding valueAt
-  value-put =
-      let p = take (i * 32) chain in
-      let q = drop (i * 32 + length v) chain in
-      ap (λ (z : List ℕ). take 32 (drop (i * 32) z)) (append-assoc p v q)
-      ∙ ap (take 32) (drop-at p (v ++ q) (i * 32) before-length)
-      ∙ take-at v q 32 l
 
 -- ---- an item's value
 module _ (c k : ℕ) (i : Item) where
   pub item-value-length : (chain : List ℕ) → length (itemValue c k i chain) ≡ 32
   unfolding itemValue
-  item-value-length chain = link-length (valueAt k chain) (i .op) (seqAt c k) (i .author)
+  item-value-length chain = link-length (valueAt c k chain) (i .op) (seqAt c k) (i .author)
 
   -- it depends on the value before it only
-  pub item-value-same : (s t : List ℕ) → valueAt k s ≡ valueAt k t → itemValue c k i s ≡ itemValue c k i t
+  pub item-value-same : (s t : List ℕ) → valueAt c k s ≡ valueAt c k t → itemValue c k i s ≡ itemValue c k i t
   unfolding itemValue
   item-value-same s t e = rw e
 
@@ -110,7 +87,7 @@ module _ (c held : ℕ) (m chain : List ℕ) (l : length chain ≡ 1056) where
   unfolding chainTo chainItem
   held-item k h = rw (lt-ltb _ _ h)
 
-  pub new-item : (k : ℕ) → held ≤ k → to (suc k) ≡ put (to k) ((k + 1) * 32) (value k (to k))
+  pub new-item : (k : ℕ) → held ≤ k → to (suc k) ≡ holdValue c (k + 1) (value k (to k)) (to k)
   unfolding chainTo chainItem
   new-item k h = rw (le-ltb _ _ h)
 
@@ -121,58 +98,58 @@ module _ (c held : ℕ) (m chain : List ℕ) (l : length chain ≡ 1056) where
       let e : length (to k) ≡ 1056 = chain-length k (omega arith) in
       let w : length (value k (to k)) ≡ 32 = item-value-length c k (replyItem m k) (to k) in
       ⊎-elim
-      (λ (g : held ≤ k). ap length (new-item k g) ∙ put-length (to k) (value k (to k)) ((k + 1) * 32) (omega arith) ∙ e)
+      (λ (g : held ≤ k). ap length (new-item k g) ∙ hold-length c (k + 1) (value k (to k)) (to k) w e (omega arith))
       (λ (g : k < held). ap length (held-item k g) ∙ e)
       (le-or-lt held k)
 
   -- a value that is there stays
-  step-kept : (j k : ℕ) → j ≤ k → k < 32 → valueAt j (to (suc k)) ≡ valueAt j (to k)
+  step-kept : (j k : ℕ) → j ≤ k → k < 32 → valueAt c j (to (suc k)) ≡ valueAt c j (to k)
   step-kept j k g h =
       let e : length (to k) ≡ 1056 = chain-length k (omega arith) in
       ⊎-elim
       (λ (q : held ≤ k).
-      ap (valueAt j) (new-item k q)
-      ∙ value-kept (to k) (value k (to k)) (k + 1) (item-value-length c k (replyItem m k) (to k)) (omega arith) j (omega arith))
-      (λ (q : k < held). ap (valueAt j) (held-item k q))
+      ap (valueAt c j) (new-item k q)
+      ∙ value-kept c (k + 1) (value k (to k)) (to k) (item-value-length c k (replyItem m k) (to k)) e (omega arith) j (omega arith))
+      (λ (q : k < held). ap (valueAt c j) (held-item k q))
       (le-or-lt held k)
 
-  more-kept : (j k d : ℕ) → j ≤ k → k + d ≤ 32 → valueAt j (to (k + d)) ≡ valueAt j (to k)
-  more-kept j k zero g h = let e : k + zero ≡ k = omega arith in ap (λ (x : ℕ). valueAt j (to x)) e
+  more-kept : (j k d : ℕ) → j ≤ k → k + d ≤ 32 → valueAt c j (to (k + d)) ≡ valueAt c j (to k)
+  more-kept j k zero g h = let e : k + zero ≡ k = omega arith in ap (λ (x : ℕ). valueAt c j (to x)) e
   more-kept j k (suc d) g h =
       let e : k + suc d ≡ suc (k + d) = omega arith in
-      ap (λ (x : ℕ). valueAt j (to x)) e ∙ step-kept j (k + d) (omega arith) (omega arith) ∙ more-kept j k d g (omega arith)
+      ap (λ (x : ℕ). valueAt c j (to x)) e ∙ step-kept j (k + d) (omega arith) (omega arith) ∙ more-kept j k d g (omega arith)
 
-  pub chain-kept : (j k n : ℕ) → j ≤ k → k ≤ n → n ≤ 32 → valueAt j (to n) ≡ valueAt j (to k)
+  pub chain-kept : (j k n : ℕ) → j ≤ k → k ≤ n → n ≤ 32 → valueAt c j (to n) ≡ valueAt c j (to k)
   chain-kept j k n g h f =
       let e : n ≡ k + (n - k) = omega arith in
-      ap (λ (x : ℕ). valueAt j (to x)) e ∙ more-kept j k (n - k) g (omega arith)
+      ap (λ (x : ℕ). valueAt c j (to x)) e ∙ more-kept j k (n - k) g (omega arith)
 
   -- the values held before are those held afterwards
-  pub held-kept : (j n : ℕ) → j ≤ held → n ≤ 32 → valueAt j (to n) ≡ valueAt j chain
+  pub held-kept : (j n : ℕ) → j ≤ held → n ≤ 32 → valueAt c j (to n) ≡ valueAt c j chain
   unfolding chainTo
   held-kept j zero g h = refl
   held-kept j (suc n) g h =
       let e = held-kept j n g (omega arith) in
       ⊎-elim
       (λ (q : held ≤ n). step-kept j n (omega arith) (omega arith) ∙ e)
-      (λ (q : n < held). ap (valueAt j) (held-item n q) ∙ e)
+      (λ (q : n < held). ap (valueAt c j) (held-item n q) ∙ e)
       (le-or-lt held n)
 
   -- each item's chain value is the digest of its string, over the chain held afterwards
-  pub chain-links : (k n : ℕ) → k < n → n ≤ 32 → itemChainOk c held chain k (replyItem m k) ≡ true → valueAt (k + 1) (to n) ≡ value k (to n)
+  pub chain-links : (k n : ℕ) → k < n → n ≤ 32 → itemChainOk c held chain k (replyItem m k) ≡ true → valueAt c (k + 1) (to n) ≡ value k (to n)
   unfolding itemChainOk
   chain-links k n g h e =
       ⊎-elim
       (λ (q : held ≤ k).
       let z : length (to k) ≡ 1056 = chain-length k (omega arith) in
       let w : length (value k (to k)) ≡ 32 = item-value-length c k (replyItem m k) (to k) in
-      let s : to (k + 1) ≡ put (to k) ((k + 1) * 32) (value k (to k)) = ap to (add-one k) ∙ new-item k q in
+      let s : to (k + 1) ≡ holdValue c (k + 1) (value k (to k)) (to k) = ap to (add-one k) ∙ new-item k q in
       chain-kept (k + 1) (k + 1) n (omega arith) (omega arith) h
-      ∙ ap (valueAt (k + 1)) s
-      ∙ value-put (to k) (value k (to k)) (k + 1) w (omega arith)
+      ∙ ap (valueAt c (k + 1)) s
+      ∙ value-put c (k + 1) (value k (to k)) (to k) w z (omega arith)
       ∙ item-value-same c k (replyItem m k) (to k) (to n) (sym (chain-kept k k n (omega arith) (omega arith) h)))
       (λ (q : k < held).
-      let t : same (value k chain) (valueAt (k + 1) chain) ≡ true = rw (lt-ltb _ _ q) at e in
+      let t : same (value k chain) (valueAt c (k + 1) chain) ≡ true = rw (lt-ltb _ _ q) at e in
       held-kept (k + 1) n (omega arith) h
       ∙ sym (same-yes _ _ t)
       ∙ item-value-same c k (replyItem m k) chain (to n) (sym (held-kept k n (omega arith) h)))
@@ -183,7 +160,7 @@ module _ (c held : ℕ) (m chain : List ℕ) (l : length chain ≡ 1056) where
 pub record ItemTaken (r : Replica) (m : List ℕ) (k : ℕ) : Type 0 where
   pub fine : ItemAllowed (r .confirmed) k (replyItem m k)
   pub tag : replyItem m k .tag ≡ invokeTag (r .keys) (replyItem m k .op) (replyItem m k .author)
-  pub link : valueAt (k + 1) (chainAfter r m) ≡ itemValue (r .confirmed) k (replyItem m k) (chainAfter r m)
+  pub link : valueAt (r .confirmed) (k + 1) (chainAfter r m) ≡ itemValue (r .confirmed) k (replyItem m k) (chainAfter r m)
 
 module _ (r : Replica) (m : List ℕ) (room : ℕ) (e : replyNo r m room ≡ 0) where
   few : replyCount m ≤ 32
@@ -204,6 +181,6 @@ module _ (r : Replica) (m : List ℕ) (room : ℕ) (e : replyNo r m room ≡ 0) 
   last-current = same-op-yes (lastItem m .op) (r .current) (last-yes r m (last-passed r m room e) .op)
 
   -- values held before stay
-  pub values-stay : length (r .chain) ≡ 1056 → (j : ℕ) → j ≤ r .held → valueAt j (chainAfter r m) ≡ valueAt j (r .chain)
+  pub values-stay : length (r .chain) ≡ 1056 → (j : ℕ) → j ≤ r .held → valueAt (r .confirmed) j (chainAfter r m) ≡ valueAt (r .confirmed) j (r .chain)
   unfolding chainAfter
   values-stay l j h = held-kept (r .confirmed) (r .held) m (r .chain) l j (replyCount m) h few

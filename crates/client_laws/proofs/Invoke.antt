@@ -4,18 +4,18 @@ use mathlib.Core.Path.{_≡_, refl}
 use mathlib.Core.List.{List, [], _∷_}
 use mathlib.Core.Bool.{true, _&&_, or-true}
 use lib.Dec.{leb, eqb}
-use lib.ListN.{length, replicate, length-replicate}
+use lib.ListN.{length}
 use native.Mathlib.Omega.{arith}
 use borrow.Author.Tests.{leb-true, eqb-true, le-leb, ne-eqb}
-use Rattle.slices.specs.Bytes.{isZero}
-use Rattle.slices.proofs.Laws.{all-drop, all-replicate}
 use Rattle.operation.specs.Operation.{opOk}
 use Rattle.replica.specs.declared.Replica.{Replica}
 use Rattle.replica.specs.Outcome.{invoked}
 use Rattle.replica.specs.Replica.{Step, inRange, noCurrent, freshReplica, stopStep}
+use Rattle.replica.proofs.Places.{no-values-length, none-ok, none-status, none-held}
 use Rattle.checks.proofs.Laws.{all-yes, and-yes, call-cases}
 use Rattle.replica.proofs.Laws.{ranged, in-range, Sized, Sound, stop-sound}
-use Rattle.client_invoke.specs.Invoke.{openNo, invokeNo, newOp, invokedReplica, invokeMessage, invokeStep}
+use Rattle.client_open.specs.Open.{openNo}
+use Rattle.client_invoke.specs.Invoke.{invokeNo, newOp, invokedReplica, invokeMessage, invokeStep}
 use Rattle.client_invoke.proofs.Laws.{invoke-yes}
 
 -- ---- opening
@@ -44,13 +44,13 @@ module _ (n : ℕ) (keys : List ℕ) (e : openNo n keys ≡ 0) where
         last = omega arith;
         mark = refl;
         current = refl;
-        statuses = all-replicate (λ x. leb x 2) 32 0 refl;
-        unused = all-replicate isZero 32 0 refl;
-        rest = all-drop isZero (replicate 1056 0) 32 (all-replicate isZero 1056 0 refl);
+        statuses = none-ok;
+        unused = none-status;
+        rest = none-held;
       })
 
   pub open-sized : Sized (freshReplica n keys)
-  open-sized = record { keys = open-yes .long; chain = length-replicate {A = ℕ} 1056 0; statuses = refl; cells = refl }
+  open-sized = record { keys = open-yes .long; chain = no-values-length; statuses = refl; cells = refl }
 
   pub open-sound : Sound (freshReplica n keys)
   open-sound = record { range = open-in-range; sized = open-sized }

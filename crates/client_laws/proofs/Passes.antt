@@ -27,18 +27,18 @@ yes-append [] ys y z = z
 yes-append (x ∷ xs) ys y z = (y .0, yes-append xs ys (y .1) z)
 
 pub invoke-passes : (r : Replica) (kind cell amount room : ℕ) → inRange r ≡ true → r .halt ≡ 0 → noCurrent (r .current) ≡ true
-    → allowed kind cell amount ≡ true → r .count < 1000000 → 43 ≤ room → invokeNo r kind cell amount room ≡ 0
+    → allowed kind cell amount 0 ≡ true → r .count < 1000000 → 43 ≤ room → invokeNo r kind cell amount room ≡ 0
 unfolding invokeNo
 invoke-passes r kind cell amount room a b c d e f =
     yes-first (invokeChecks r kind cell amount room) (a, (eq-eqb (r .halt) 0 b, (c, (d, (lt-ltb (r .count) 1000000 e, (le-leb 43 room f, tt))))))
 
-items-pass : (r : Replica) (m : List ℕ) (n : ℕ) → ((k : ℕ) → k < n → Yes (itemChecks r k (replyItem m k))) → Yes (itemsChecks r m n)
+items-pass : (r : Replica) (m : List ℕ) (n : ℕ) → ((k : ℕ) → k < n → Yes (itemChecks r (replyCount m) k (replyItem m k))) → Yes (itemsChecks r m n)
 unfolding itemsChecks
 items-pass r m zero y = tt
-items-pass r m (suc n) y = yes-append (itemsChecks r m n) (itemChecks r n (replyItem m n)) (items-pass r m n (λ k h. y k (omega arith))) (y n (omega arith))
+items-pass r m (suc n) y = yes-append (itemsChecks r m n) (itemChecks r (replyCount m) n (replyItem m n)) (items-pass r m n (λ k h. y k (omega arith))) (y n (omega arith))
 
 pub reply-passes : (r : Replica) (m : List ℕ) (room : ℕ) → inRange r ≡ true → r .halt ≡ 0 → isReply m ≡ true → 80 ≤ room
-    → ((k : ℕ) → k < replyCount m → Yes (itemChecks r k (replyItem m k))) → lastOk r m ≡ true → replyNo r m room ≡ 0
+    → ((k : ℕ) → k < replyCount m → Yes (itemChecks r (replyCount m) k (replyItem m k))) → lastOk r m ≡ true → replyNo r m room ≡ 0
 unfolding replyNo
 reply-passes r m room a b c d y l =
     yes-first (formChecks r m room ++ (itemsChecks r m (replyCount m) ++ lastChecks r m))

@@ -1,19 +1,18 @@
 -- A successful reply leaves a replica in range, with arrays as long as they were; the fields that stay. Assumes nothing.
-use Prim.Native.Nat.{ℕ, zero, suc, _+_, _-_, _*_, _<_, _≤_}
+use Prim.Native.Nat.{ℕ, zero, suc, _+_, _-_, _<_, _≤_}
 use mathlib.Core.Path.{_≡_, refl, ap, _∙_}
 use mathlib.Core.Logic.{⊎-elim}
 use mathlib.Core.List.{List}
 use mathlib.Core.Bool.{Bool, true, false}
 use lib.Dec.{leb, ltb}
-use lib.ListN.{length, getD, drop, length-set}
-use lib.Seq.{drop-set-lt, getD-set-same, getD-set-other}
+use lib.ListN.{length}
 use native.Mathlib.Omega.{arith}
 use borrow.Author.Tests.{ltb-true, ltb-false, ne-eqb}
-use Rattle.slices.specs.Bytes.{all, isZero}
-use Rattle.slices.proofs.Laws.{all-drop-more, all-set, drop-put}
 use Rattle.operation.specs.Operation.{noOp}
 use Rattle.message.specs.Message.{replyCount, replyItem}
 use Rattle.replica.specs.declared.Replica.{Replica}
+use Rattle.replica.specs.Places.{statusAt, unusedValues}
+use Rattle.replica.proofs.Places.{unused-more, hold-unused, status-put, status-other, hold-statuses-length, hold-statuses-ok, hold-statuses-unused}
 use Rattle.replica.specs.Replica.{Step, inRange, stopStep}
 use Rattle.checks.proofs.Laws.{cond-cases, call-cases}
 use Rattle.replica.proofs.Laws.{ranged, in-range, Sized, Sound, stop-sound}
@@ -44,17 +43,17 @@ module _ (r : Replica) (chain : List ℕ) (n : ℕ) (a : Bool) where
   replied-chain = refl
 
   -- the status of the last item is new, the others stay
-  pub status-new : n - 1 < length (r .statuses) → getD (repliedReplica r chain n a .statuses) (n - 1) 0 ≡ heldStatus a
+  pub status-new : n - 1 < length (r .statuses) → statusAt (r .confirmed) (n - 1) (repliedReplica r chain n a .statuses) ≡ heldStatus a
   unfolding repliedReplica
-  status-new h = getD-set-same (r .statuses) (n - 1) (heldStatus a) 0 h
+  status-new h = status-put (r .confirmed) (n - 1) (heldStatus a) (r .statuses) h
 
-  pub status-kept : (j : ℕ) → (j ≡ n - 1 → ⊥) → getD (repliedReplica r chain n a .statuses) j 0 ≡ getD (r .statuses) j 0
+  pub status-kept : (j : ℕ) → (j ≡ n - 1 → ⊥) → statusAt (r .confirmed) j (repliedReplica r chain n a .statuses) ≡ statusAt (r .confirmed) j (r .statuses)
   unfolding repliedReplica
-  status-kept j h = getD-set-other (r .statuses) (n - 1) j (heldStatus a) 0 h
+  status-kept j h = status-other (r .confirmed) (n - 1) (heldStatus a) (r .statuses) j h
 
   pub statuses-length : length (repliedReplica r chain n a .statuses) ≡ length (r .statuses)
   unfolding repliedReplica
-  statuses-length = length-set (r .statuses) (n - 1) (heldStatus a)
+  statuses-length = hold-statuses-length (r .confirmed) (n - 1) (heldStatus a) (r .statuses)
 
 pub status-small : (a : Bool) → leb (heldStatus a) 2 ≡ true
 status-small true = refl
@@ -71,20 +70,20 @@ module _ (a b : ℕ) where
   pub larger-right : b ≤ larger a b
   larger-right = cond-cases (λ (x : ℕ). b ≤ x) (ltb a b) b a (λ e. omega arith) (λ e. ltb-false a b e)
 
--- ---- the chain past the values of the first k items stays
-pub tail-kept : (c held : ℕ) (m chain : List ℕ) → length chain ≡ 1056 → (k x : ℕ) → k ≤ 32 → (k + 1) * 32 ≤ x
-    → drop x (chainTo c held m chain k) ≡ drop x chain
+-- ---- the places past those of the first k items stay unused
+pub unused-kept : (c held : ℕ) (m chain : List ℕ) → length chain ≡ 1056 → (k x : ℕ) → k ≤ 32 → k ≤ x
+    → unusedValues c x (chainTo c held m chain k) ≡ unusedValues c x chain
 unfolding chainTo
-tail-kept c held m chain l zero x h g = refl
-tail-kept c held m chain l (suc k) x h g =
+unused-kept c held m chain l zero x h g = refl
+unused-kept c held m chain l (suc k) x h g =
     let to = chainTo c held m chain k in
     let v = itemValue c k (replyItem m k) to in
     let e : length to ≡ 1056 = chain-length c held m chain l k (omega arith) in
     let w : length v ≡ 32 = item-value-length c k (replyItem m k) to in
-    let i = tail-kept c held m chain l k x (omega arith) (omega arith) in
+    let i = unused-kept c held m chain l k x (omega arith) (omega arith) in
     ⊎-elim
-    (λ (q : held ≤ k). ap (drop x) (new-item c held m chain l k q) ∙ drop-put to v ((k + 1) * 32) x (omega arith) (omega arith) ∙ i)
-    (λ (q : k < held). ap (drop x) (held-item c held m chain l k q) ∙ i)
+    (λ (q : held ≤ k). ap (unusedValues c x) (new-item c held m chain l k q) ∙ hold-unused c (k + 1) v to w e (omega arith) x (omega arith) ∙ i)
+    (λ (q : k < held). ap (unusedValues c x) (held-item c held m chain l k q) ∙ i)
     (le-or-lt held k)
 
 -- ---- a successful reply
@@ -124,13 +123,11 @@ module _ (r : Replica) (m : List ℕ) (room : ℕ) (e : replyNo r m room ≡ 0) 
         last = larger-either (r .held) n (λ (x : ℕ). r .confirmed + x ≤ 1000000) (g .last) last-seq;
         mark = g .mark;
         current = refl;
-        statuses = all-set (λ x. leb x 2) (r .statuses) (n - 1) v (g .statuses) (status-small (isAborted r m));
-        unused =
-            ap (all isZero) (drop-set-lt h (r .statuses) (n - 1) v (omega arith))
-            ∙ all-drop-more isZero (r .statuses) (r .held) h hl (g .unused);
+        statuses = hold-statuses-ok (r .confirmed) (n - 1) v (r .statuses) (g .statuses) (status-small (isAborted r m));
+        unused = hold-statuses-unused (r .confirmed) (n - 1) v (r .statuses) (r .held) h hl (omega arith) (g .unused);
         rest =
-            ap (all isZero) (tail-kept (r .confirmed) (r .held) m (r .chain) l n ((h + 1) * 32) few (omega arith))
-            ∙ all-drop-more isZero (r .chain) ((r .held + 1) * 32) ((h + 1) * 32) (omega arith) (g .rest);
+            unused-kept (r .confirmed) (r .held) m (r .chain) l n h few hr
+            ∙ unused-more (r .confirmed) (r .held) h (r .chain) hl (g .rest);
       })
 
   pub reply-sized : Sized r → Sized next

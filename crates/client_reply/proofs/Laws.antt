@@ -4,7 +4,7 @@ use mathlib.Core.Path.{_≡_}
 use mathlib.Core.List.{List, [], _∷_, _++_}
 use mathlib.Core.Bool.{Bool, false}
 use lib.Dec.{eqb}
-use lib.ListN.{length, getD, take, drop, set, length-append}
+use lib.ListN.{length, take, drop, set, length-append}
 use lib.Seq.{take-suc-set}
 use native.Mathlib.Omega.{arith}
 use native.Mathlib.Numerals.{add-one}
@@ -14,27 +14,27 @@ use Rattle.operation.specs.declared.Operation.{Operation}
 use Rattle.operation.specs.Operation.{opBytes, responseOn, runAll}
 use Rattle.conflict.specs.Conflict.{conflicts}
 use Rattle.message.specs.declared.Item.{Item}
-use Rattle.message.specs.Message.{replyCount, commitBytes, commitFields}
-use Rattle.verify.specs.Verify.{valueAt}
+use Rattle.message.specs.Message.{replyCount, commitString, commitBytes}
 use Rattle.verify.proofs.Laws.{commit-tag-length}
 use Rattle.replica.specs.declared.Replica.{Replica}
+use Rattle.replica.specs.Places.{valueAt, statusAt}
 use Rattle.replica.specs.Replica.{Step, over, stop}
 use Rattle.client_reply_check.specs.ReplyChecks.{replyNo}
 use Rattle.client_reply.specs.Reply.{chainAfter, Sorted, sortItem, sortTo, isAborted, lastResponse, lastSeq, saysOf, status, repliedReplica, commitMessage, replyDone, replyStep}
 
 -- ---- the two lists
-module _ (number : ℕ) (statuses : List ℕ) (k : ℕ) (i : Item) (s : Sorted) where
-  pub sort-own : i .author ≡ number → getD statuses k 0 ≡ 1
-      → record { others = s .others; own = s .own ++ (i .op ∷ []) } ≡ sortItem number statuses k i s
+module _ (c number : ℕ) (statuses : List ℕ) (k : ℕ) (i : Item) (s : Sorted) where
+  pub sort-own : i .author ≡ number → statusAt c k statuses ≡ 1
+      → record { others = s .others; own = s .own ++ (i .op ∷ []) } ≡ sortItem c number statuses k i s
   unfolding sortItem
   sort-own a d = rw (eq-eqb _ _ a, eq-eqb _ _ d)
 
-  pub sort-skip : i .author ≡ number → (getD statuses k 0 ≡ 1 → ⊥) → s ≡ sortItem number statuses k i s
+  pub sort-skip : i .author ≡ number → (statusAt c k statuses ≡ 1 → ⊥) → s ≡ sortItem c number statuses k i s
   unfolding sortItem
   sort-skip a d = rw (eq-eqb _ _ a, ne-eqb _ _ d)
 
   pub sort-other : (i .author ≡ number → ⊥)
-      → record { others = s .others ++ (i .op ∷ []); own = s .own } ≡ sortItem number statuses k i s
+      → record { others = s .others ++ (i .op ∷ []); own = s .own } ≡ sortItem c number statuses k i s
   unfolding sortItem
   sort-other a = rw (ne-eqb _ _ a)
 
@@ -43,7 +43,7 @@ pub take-set-more : (l : List Operation) (i : ℕ) (e : Operation) → i < lengt
 take-set-more l i e h = rw add-one (take-suc-set l i e h)
 
 -- ---- the verdict
-module _ (r : Replica) (m : List ℕ) (n : ℕ) (e : n ≡ replyCount m) (s : Sorted) (f : s ≡ sortTo (r .number) (r .statuses) m (n - 1)) where
+module _ (r : Replica) (m : List ℕ) (n : ℕ) (e : n ≡ replyCount m) (s : Sorted) (f : s ≡ sortTo (r .confirmed) (r .number) (r .statuses) m (n - 1)) where
   pub aborted-is : (t : Sorted) → t ≡ record { others = s .others; own = s .own ++ (r .current ∷ []) }
       → conflicts (r .cells) (t .others) (t .own) ≡ isAborted r m
   unfolding isAborted
@@ -72,7 +72,7 @@ module _ (r : Replica) (m out : List ℕ) where
       (rw (f, g, h, e), rw (e, k, f, g))
 
 -- the commit is 80 bytes long
-pub commit-message-length : (r : Replica) (chain : List ℕ) (n : ℕ) (a : Bool) → length (valueAt n chain) ≡ 32 → length (commitMessage r chain n a) ≡ 80
-unfolding commitMessage commitBytes commitFields opBytes bigEndian
+pub commit-message-length : (r : Replica) (chain : List ℕ) (n : ℕ) (a : Bool) → length (valueAt (r .confirmed) n chain) ≡ 32 → length (commitMessage r chain n a) ≡ 80
+unfolding commitMessage commitBytes commitString opBytes bigEndian
 commit-message-length r chain n a h =
-    simp length-append (omega (arith, h, commit-tag-length (r .keys) (r .current) (r .number) (r .confirmed + n) (valueAt n chain) (status a)))
+    simp length-append (omega (arith, h, commit-tag-length (r .keys) (r .current) (r .number) (r .confirmed + n) (valueAt (r .confirmed) n chain) (status a)))

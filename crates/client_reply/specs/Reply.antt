@@ -1,24 +1,23 @@
 -- What a reply does once its checks are passed. Document 01, "What a van does" (`RE`).
-use Prim.Native.Nat.{ℕ, zero, suc, _+_, _-_, _*_}
+use Prim.Native.Nat.{ℕ, zero, suc, _+_, _-_}
 use mathlib.Core.List.{List, [], _∷_, _++_}
 use mathlib.Core.Bool.{Bool, cond}
-use lib.ListN.{getD, set}
 use lib.Dec.{ltb, eqb}
-use Rattle.slices.specs.Bytes.{put}
 use Rattle.operation.specs.declared.Operation.{Operation}
 use Rattle.operation.specs.Operation.{Response, noOp, responseOn, runAll}
 use Rattle.conflict.specs.Conflict.{conflicts}
 use Rattle.message.specs.declared.Item.{Item}
 use Rattle.message.specs.Message.{replyCount, replyItem, commitBytes}
-use Rattle.verify.specs.Verify.{commitTag, valueAt}
+use Rattle.verify.specs.Verify.{commitTag}
 use Rattle.replica.specs.declared.Replica.{Replica}
 use Rattle.replica.specs.Outcome.{Told, responded, aborted}
+use Rattle.replica.specs.Places.{valueAt, statusAt, holdValue, holdStatus}
 use Rattle.replica.specs.Replica.{Step, stopStep}
 use Rattle.client_reply_check.specs.ReplyChecks.{itemValue, replyNo}
 
 -- ---- the chain: "Chain values not held are worked out and held"
 unfoldable pub chainItem : ℕ → ℕ → ℕ → Item → List ℕ → List ℕ
-chainItem c held k i chain = cond (ltb k held) chain (put chain ((k + 1) * 32) (itemValue c k i chain))
+chainItem c held k i chain = cond (ltb k held) chain (holdValue c (k + 1) (itemValue c k i chain) chain)
 
 -- with the first k items
 unfoldable pub chainTo : ℕ → ℕ → List ℕ → List ℕ → ℕ → List ℕ
@@ -35,20 +34,20 @@ pub record Sorted : Type 0 where
 
 -- "Others' entries form one list. Own earlier entries with status done form the second …. Own earlier entries without a done
 -- status are passed over."
-unfoldable pub sortItem : ℕ → List ℕ → ℕ → Item → Sorted → Sorted
-sortItem number statuses k i s =
+unfoldable pub sortItem : ℕ → ℕ → List ℕ → ℕ → Item → Sorted → Sorted
+sortItem c number statuses k i s =
     cond (eqb (i .author) number)
-    (cond (eqb (getD statuses k 0) 1) (record { others = s .others; own = s .own ++ (i .op ∷ []) }) s)
+    (cond (eqb (statusAt c k statuses) 1) (record { others = s .others; own = s .own ++ (i .op ∷ []) }) s)
     (record { others = s .others ++ (i .op ∷ []); own = s .own })
 
 -- the first k items
-unfoldable pub sortTo : ℕ → List ℕ → List ℕ → ℕ → Sorted
-sortTo number statuses m zero = record { others = []; own = [] }
-sortTo number statuses m (suc k) = sortItem number statuses k (replyItem m k) (sortTo number statuses m k)
+unfoldable pub sortTo : ℕ → ℕ → List ℕ → List ℕ → ℕ → Sorted
+sortTo c number statuses m zero = record { others = []; own = [] }
+sortTo c number statuses m (suc k) = sortItem c number statuses k (replyItem m k) (sortTo c number statuses m k)
 
 -- the items before the last
 abbrev pub pending : Replica → List ℕ → Sorted
-pending r m = sortTo (r .number) (r .statuses) m (replyCount m - 1)
+pending r m = sortTo (r .confirmed) (r .number) (r .statuses) m (replyCount m - 1)
 
 -- ---- the response
 -- "with the entry in hand at its end. If the first list doesn't conflict with the second on the confirmed cells, …; else "aside""
@@ -86,7 +85,7 @@ repliedReplica r chain n a =
       confirmed = r .confirmed;
       held = larger (r .held) n;
       chain = chain;
-      statuses = set (r .statuses) (n - 1) (heldStatus a);
+      statuses = holdStatus (r .confirmed) (n - 1) (heldStatus a) (r .statuses);
       cells = r .cells;
       halt = r .halt;
     }
@@ -97,9 +96,9 @@ commitMessage r chain n a =
       op = r .current;
       author = r .number;
       seq = r .confirmed + n;
-      digest = valueAt n chain;
+      digest = valueAt (r .confirmed) n chain;
       status = status a;
-      tag = commitTag (r .keys) (r .current) (r .number) (r .confirmed + n) (valueAt n chain) (status a);
+      tag = commitTag (r .keys) (r .current) (r .number) (r .confirmed + n) (valueAt (r .confirmed) n chain) (status a);
     })
 
 -- ---- the step

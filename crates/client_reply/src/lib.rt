@@ -3,11 +3,15 @@ ghost use mathlib.Core.Path.{_≡_};
 ghost use Prim.Native.Nat.{_+_, _*_, _<_, _≤_};
 ghost use mathlib.Core.List.{_∷_, [], _++_};
 ghost use lib.ListN.{length, take, drop};
+ghost use Rattle.operation.specs.Operation.{maxPending};
+ghost use Rattle.message.specs.Layout.{clientCount, maxSeq, itemLength, replyHead, commitLength};
 ghost use Rattle.message.specs.Message.{replyCount};
 ghost use Rattle.replica.specs.Outcome.{eventTold};
 ghost use Rattle.replica.specs.Replica.{afterOf, over};
 ghost use Rattle.client_reply.specs.Reply.{chainItem, chainTo, sortItem, sortTo, isAborted, lastResponse, saysOf, status, heldStatus, larger, repliedReplica, commitMessage, replyStep};
 ghost use Rattle.client_reply.specs.Lists.{lists, Full};
+ghost use Rattle.key_table.specs.KeyTable.{StateOf};
+use hmac::Keyed;
 use message::Commit;
 use message::Item;
 use operation::Operation;
@@ -19,15 +23,21 @@ use replica::Stepped;
 
 // The two lists: the first `n` of `others`, the first `m` of `own`.
 struct Lists {
-    others: [Operation; 32],
+    others: [Operation; operation::MAX_PENDING],
     n: usize,
-    own: [Operation; 32],
+    own: [Operation; operation::MAX_PENDING],
     m: usize,
 }
 
 // The chain with the value of item `k` held.
-fn chain_item(c: u32, held: u32, k: usize, i: Item, chain: [u8; 1056]) -> [u8; 1056]
-    requires { ⌜ (k < 32) × (c ≤ 1000000) ⌝ }
+fn chain_item(
+    c: u32,
+    held: u32,
+    k: usize,
+    i: Item,
+    chain: [u8; replica::CHAIN_LENGTH],
+) -> [u8; replica::CHAIN_LENGTH]
+    requires { ⌜ (k < maxPending) × (c ≤ maxSeq) ⌝ }
     ensures { λ r. ⌜ r ≡ chainItem c held k i chain ⌝ }
 {
     if k < held as usize {
@@ -35,13 +45,19 @@ fn chain_item(c: u32, held: u32, k: usize, i: Item, chain: [u8; 1056]) -> [u8; 1
     } else {
         let v = client_reply_check::item_value(c, k, i, chain);
         let mut t = chain;
-        slices::copy_to(&mut t, (k + 1) * 32, &v);
+        slices::copy_to(&mut t, (k + 1) * message::DIGEST_LENGTH, &v);
         t
     }
 }
 
-fn chain_to(c: u32, held: u32, m: &[u8], chain: [u8; 1056], n: usize) -> [u8; 1056]
-    requires { ⌜ (n ≤ 32) × (c ≤ 1000000) × (3 + n * 41 ≤ length (now m)) ⌝ }
+fn chain_to(
+    c: u32,
+    held: u32,
+    m: &[u8],
+    chain: [u8; replica::CHAIN_LENGTH],
+    n: usize,
+) -> [u8; replica::CHAIN_LENGTH]
+    requires { ⌜ (n ≤ maxPending) × (c ≤ maxSeq) × (replyHead + n * itemLength ≤ length (now m)) ⌝ }
     ensures { λ r. ⌜ r ≡ chainTo c held (now (m .entry)) chain n ⌝ }
 {
     let mut t = chain;
@@ -58,24 +74,22 @@ fn chain_to(c: u32, held: u32, m: &[u8], chain: [u8; 1056], n: usize) -> [u8; 10
 fn no_lists() -> Lists
     ensures { λ r. ⌜ (r .n ≡ 0) × (r .m ≡ 0) ⌝ }
 {
-    let e = Operation {
-        count: 0,
-        kind: 0,
-        cell: 0,
-        amount: 0,
-        last: 0,
-    };
+    let e = operation::no_op();
     Lists {
-        others: [e; 32],
+        others: [e; operation::MAX_PENDING],
         n: 0,
-        own: [e; 32],
+        own: [e; operation::MAX_PENDING],
         m: 0,
     }
 }
 
 // One operation more after the first `n`.
-fn put_op(es: [Operation; 32], n: usize, e: Operation) -> [Operation; 32]
-    requires { ⌜ n < 32 ⌝ }
+fn put_op(
+    es: [Operation; operation::MAX_PENDING],
+    n: usize,
+    e: Operation,
+) -> [Operation; operation::MAX_PENDING]
+    requires { ⌜ n < maxPending ⌝ }
     ensures { λ r. ⌜ take (n + 1) r ≡ take n es ++ (e ∷ []) ⌝ }
 {
     let mut t = es;
@@ -84,7 +98,7 @@ fn put_op(es: [Operation; 32], n: usize, e: Operation) -> [Operation; 32]
 }
 
 fn push_other(l: Lists, e: Operation) -> Lists
-    requires { ⌜ l .n < 32 ⌝ }
+    requires { ⌜ l .n < maxPending ⌝ }
     ensures { λ r. ⌜ (lists r ≡ record { others = lists l .others ++ (e ∷ []); own = lists l .own }) × (r .n ≡ l .n + 1) × (r .m ≡ l .m) ⌝ }
 {
     let n = l.n;
@@ -97,7 +111,7 @@ fn push_other(l: Lists, e: Operation) -> Lists
 }
 
 fn push_own(l: Lists, e: Operation) -> Lists
-    requires { ⌜ l .m < 32 ⌝ }
+    requires { ⌜ l .m < maxPending ⌝ }
     ensures { λ r. ⌜ (lists r ≡ record { others = lists l .others; own = lists l .own ++ (e ∷ []) }) × (r .n ≡ l .n) × (r .m ≡ l .m + 1) ⌝ }
 {
     let m = l.m;
@@ -110,9 +124,16 @@ fn push_own(l: Lists, e: Operation) -> Lists
 }
 
 // Item `k` put into its list.
-fn sort_item(l: Lists, number: u8, statuses: [u8; 32], k: usize, i: Item) -> Lists
-    requires { ⌜ (k < 32) × Full l k ⌝ }
-    ensures { λ r. ⌜ (lists r ≡ sortItem number statuses k i (lists l)) × Full r (k + 1) ⌝ }
+fn sort_item(
+    l: Lists,
+    c: u32,
+    number: u8,
+    statuses: [u8; operation::MAX_PENDING],
+    k: usize,
+    i: Item,
+) -> Lists
+    requires { ⌜ (k < maxPending) × Full l k ⌝ }
+    ensures { λ r. ⌜ (lists r ≡ sortItem c number statuses k i (lists l)) × Full r (k + 1) ⌝ }
 {
     let e = i.op;
     if i.author == number {
@@ -123,15 +144,15 @@ fn sort_item(l: Lists, number: u8, statuses: [u8; 32], k: usize, i: Item) -> Lis
 }
 
 // The first `n` items in their lists.
-fn sort_to(number: u8, statuses: [u8; 32], m: &[u8], n: usize) -> Lists
-    requires { ⌜ (n ≤ 32) × (3 + n * 41 ≤ length (now m)) ⌝ }
-    ensures { λ r. ⌜ (lists r ≡ sortTo number statuses (now (m .entry)) n) × Full r n ⌝ }
+fn sort_to(c: u32, number: u8, statuses: [u8; operation::MAX_PENDING], m: &[u8], n: usize) -> Lists
+    requires { ⌜ (n ≤ maxPending) × (replyHead + n * itemLength ≤ length (now m)) ⌝ }
+    ensures { λ r. ⌜ (lists r ≡ sortTo c number statuses (now (m .entry)) n) × Full r n ⌝ }
 {
     let mut l = no_lists();
     let mut k = 0;
     while k < n {
         let i = message::item_of(m, k);
-        l = sort_item(l, number, statuses, k, i);
+        l = sort_item(l, c, number, statuses, k, i);
         k += 1;
     }
     l
@@ -144,13 +165,13 @@ struct Verdict {
 }
 
 fn decide(r: Replica, m: &[u8], n: usize) -> Verdict
-    requires { ⌜ (n ≡ replyCount (now m)) × (1 ≤ n) × (n ≤ 32) × (3 + n * 41 ≤ length (now m)) ⌝ }
+    requires { ⌜ (n ≡ replyCount (now m)) × (1 ≤ n) × (n ≤ maxPending) × (replyHead + n * itemLength ≤ length (now m)) ⌝ }
     ensures { λ v. ⌜ (v .aborted ≡ isAborted r (now (m .entry))) × (v .response ≡ lastResponse r (now (m .entry))) ⌝ }
 {
     let statuses = r.statuses;
     let cells = r.cells;
     let current = r.current;
-    let l = sort_to(r.number, statuses, m, n - 1);
+    let l = sort_to(r.confirmed, r.number, statuses, m, n - 1);
     let earlier = l.own;
     let t = push_own(l, current);
     let others = t.others;
@@ -179,18 +200,12 @@ fn larger_of(a: u32, b: u32) -> u32
     if a < b { b } else { a }
 }
 
-fn replied_replica(r: Replica, chain: [u8; 1056], n: u8, aborted: bool) -> Replica
-    requires { ⌜ (1 ≤ n) × (n ≤ 32) ⌝ }
+fn replied_replica(r: Replica, chain: [u8; replica::CHAIN_LENGTH], n: u8, aborted: bool) -> Replica
+    requires { ⌜ (1 ≤ n) × (n ≤ maxPending) ⌝ }
     ensures { λ q. ⌜ q ≡ repliedReplica r chain n «aborted» ⌝ }
 {
     let k = n as usize - 1;
-    let none = Operation {
-        count: 0,
-        kind: 0,
-        cell: 0,
-        amount: 0,
-        last: 0,
-    };
+    let none = operation::no_op();
     let mut b = r;
     b.current = none;
     b.held = larger_of(r.held, n as u32);
@@ -212,17 +227,23 @@ fn says(v: Verdict, seq: u32) -> Event
     }
 }
 
-// Writes the commit.
-fn write_message(r: Replica, chain: [u8; 1056], n: u8, aborted: bool, out: &mut [u8])
-    requires { ⌜ (n ≤ 32) × (r .confirmed ≤ 1000000) × (1 ≤ r .number) × (r .number ≤ 8) × (80 ≤ length (now out)) ⌝ }
-    ensures { λ _. ⌜ now (out .exit) ≡ commitMessage r chain n «aborted» ++ drop 80 (now (out .entry)) ⌝ }
+// Writes the commit; the client's tags start from `own`.
+fn write_message(
+    r: Replica,
+    own: Keyed,
+    chain: [u8; replica::CHAIN_LENGTH],
+    n: u8,
+    aborted: bool,
+    out: &mut [u8],
+)
+    requires { ⌜ (n ≤ maxPending) × (r .confirmed ≤ maxSeq) × StateOf (r .keys) (r .number) own × (commitLength ≤ length (now out)) ⌝ }
+    ensures { λ _. ⌜ now (out .exit) ≡ commitMessage r chain n «aborted» ++ drop commitLength (now (out .entry)) ⌝ }
 {
-    let keys = r.keys;
     let current = r.current;
     let seq = r.confirmed + n as u32;
     let status = status_of(aborted);
-    let digest = verify::value_at(chain, n as usize);
-    let tag = verify::commit_tag(keys, current, r.number, seq, digest, status);
+    let digest = replica::value_at(r.confirmed, n as usize, chain);
+    let tag = verify::commit_tag_by(own, current, r.number, seq, digest, status);
     message_write::write_commit(
         out,
         Commit {
@@ -241,15 +262,17 @@ pub fn reply(r: Replica, m: &[u8], out: &mut [u8]) -> Stepped
     ensures { λ q. ⌜ (afterOf q ≡ replyStep r (now (m .entry)) (length (now (out .entry))) .after)
         × (now (out .exit) ≡ over (replyStep r (now (m .entry)) (length (now (out .entry))) .wrote) (now (out .entry))) ⌝ }
 {
-    let no = client_reply_check::reply_check(r, m, out.len());
+    let q = client_reply_check::reply_check(r, m, out.len());
+    let no = q.no;
     if no != 0 {
         return replica::stopped(r, no);
     }
-    let n = m[2];
+    let n = m[message::COUNT_OFFSET];
     let old = r.chain;
     let v = decide(r, m, n as usize);
     let chain = chain_to(r.confirmed, r.held, m, old, n as usize);
-    write_message(r, chain, n, v.aborted, out);
+    let own = q.own;
+    write_message(r, own, chain, n, v.aborted, out);
     let after = replied_replica(r, chain, n, v.aborted);
     Stepped {
         replica: after,

@@ -33,18 +33,18 @@ item-allowed c k i e =
     let y = every-yes true (opOk (i .op) ∷ leb 1 (i .author) ∷ leb (i .author) 8 ∷ leb (seqAt c k) 1000000 ∷ []) e .1 in
     record { op = y .0; low = leb-true _ _ (y .1 .0); high = leb-true _ _ (y .1 .1 .0); seq = leb-true _ _ (y .1 .1 .1 .0) }
 
-module _ (r : Replica) (k : ℕ) (i : Item) where
-  pub item-goes : itemOk (r .confirmed) k i ≡ true → firstNo 0 (proofChecks r k i) ≡ firstNo 0 (itemChecks r k i)
+module _ (r : Replica) (n k : ℕ) (i : Item) where
+  pub item-goes : itemOk (r .confirmed) k i ≡ true → firstNo 0 (proofChecks r k i) ≡ firstNo 0 (itemChecks r n k i)
   item-goes e = rw e
 
-  pub item-stops : itemOk (r .confirmed) k i ≡ false → 21 ≡ firstNo 0 (itemChecks r k i)
+  pub item-stops : itemOk (r .confirmed) k i ≡ false → 21 ≡ firstNo 0 (itemChecks r n k i)
   item-stops e = rw e
 
 -- one item more
 pub items-more : (r : Replica) (m : List ℕ) (k : ℕ)
-    → firstNo (firstNo 0 (itemsChecks r m k)) (itemChecks r k (replyItem m k)) ≡ firstNo 0 (itemsChecks r m (k + 1))
+    → firstNo (firstNo 0 (itemsChecks r m k)) (itemChecks r (replyCount m) k (replyItem m k)) ≡ firstNo 0 (itemsChecks r m (k + 1))
 unfolding itemsChecks
-items-more r m k = rw add-one (sym (first-append 0 (itemsChecks r m k) (itemChecks r k (replyItem m k))))
+items-more r m k = rw add-one (sym (first-append 0 (itemsChecks r m k) (itemChecks r (replyCount m) k (replyItem m k))))
 
 -- ---- the last item
 module _ (r : Replica) (m : List ℕ) (n : ℕ) (e : n ≡ replyCount m) where
@@ -125,7 +125,7 @@ module _ (r : Replica) (m : List ℕ) (room : ℕ) where
 items-among : (r : Replica) (m : List ℕ) (n : ℕ) → Among isStop (itemsChecks r m n)
 unfolding itemsChecks
 items-among r m zero = tt
-items-among r m (suc k) = among-append isStop (itemsChecks r m k) (itemChecks r k (replyItem m k)) (items-among r m k) (refl, (refl, (refl, tt)))
+items-among r m (suc k) = among-append isStop (itemsChecks r m k) (itemChecks r (replyCount m) k (replyItem m k)) (items-among r m k) (refl, (refl, (refl, tt)))
 
 pub reply-stop : (r : Replica) (m : List ℕ) (room : ℕ) → eqb (replyNo r m room) 0 ≡ false → isStop (replyNo r m room) ≡ true
 unfolding replyNo

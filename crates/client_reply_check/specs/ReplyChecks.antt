@@ -6,9 +6,11 @@ use lib.Dec.{ltb, leb, eqb}
 use Rattle.slices.specs.Bytes.{same}
 use Rattle.operation.specs.Operation.{opOk, sameOp}
 use Rattle.message.specs.declared.Item.{Item}
+use Rattle.message.specs.Layout.{clientCount, maxSeq, commitLength}
 use Rattle.message.specs.Message.{isReply, replyCount, replyItem}
-use Rattle.verify.specs.Verify.{itemTagOk, valueAt, linkValue}
+use Rattle.verify.specs.Verify.{itemTagOk, linkValue}
 use Rattle.replica.specs.declared.Replica.{Replica}
+use Rattle.replica.specs.Places.{valueAt}
 use Rattle.checks.specs.Checks.{every, firstNo}
 use Rattle.replica.specs.Replica.{readyChecks}
 
@@ -19,27 +21,27 @@ seqAt c k = c + (k + 1)
 
 -- 21: "entry, author allowed and place at most 1,000,000?"
 unfoldable pub itemOk : ℕ → ℕ → Item → Bool
-itemOk c k i = every true (opOk (i .op) ∷ leb 1 (i .author) ∷ leb (i .author) 8 ∷ leb (seqAt c k) 1000000 ∷ [])
+itemOk c k i = every true (opOk (i .op) ∷ leb 1 (i .author) ∷ leb (i .author) clientCount ∷ leb (seqAt c k) maxSeq ∷ [])
 
 -- the chain value of item k, from the value before it in the chain
 unfoldable pub itemValue : ℕ → ℕ → Item → List ℕ → List ℕ
-itemValue c k i chain = linkValue (valueAt k chain) (i .op) (seqAt c k) (i .author)
+itemValue c k i chain = linkValue (valueAt c k chain) (i .op) (seqAt c k) (i .author)
 
 -- 23: "Chain the same where held?"
 unfoldable pub itemChainOk : ℕ → ℕ → List ℕ → ℕ → Item → Bool
-itemChainOk c held chain k i = cond (ltb k held) (same (itemValue c k i chain) (valueAt (k + 1) chain)) true
+itemChainOk c held chain k i = cond (ltb k held) (same (itemValue c k i chain) (valueAt c (k + 1) chain)) true
 
--- "item by item": 21; 22 ("Tag right?"), 23
+-- "item by item": 21; 22 ("Tag right?"), 23. Of item k of n.
 abbrev pub proofChecks : Replica → ℕ → Item → List (Bool × ℕ)
 proofChecks r k i = (itemTagOk (r .keys) i, 22) ∷ (itemChainOk (r .confirmed) (r .held) (r .chain) k i, 23) ∷ []
 
-abbrev pub itemChecks : Replica → ℕ → Item → List (Bool × ℕ)
-itemChecks r k i = (itemOk (r .confirmed) k i, 21) ∷ proofChecks r k i
+abbrev pub itemChecks : Replica → ℕ → ℕ → Item → List (Bool × ℕ)
+itemChecks r n k i = (itemOk (r .confirmed) k i, 21) ∷ proofChecks r k i
 
 -- those of the first k items
 unfoldable pub itemsChecks : Replica → List ℕ → ℕ → List (Bool × ℕ)
 itemsChecks r m zero = []
-itemsChecks r m (suc k) = itemsChecks r m k ++ itemChecks r k (replyItem m k)
+itemsChecks r m (suc k) = itemsChecks r m k ++ itemChecks r (replyCount m) k (replyItem m k)
 
 -- the last item
 abbrev pub lastItem : List ℕ → Item
@@ -54,7 +56,7 @@ abbrev pub markChecks : Replica → List ℕ → List (Bool × ℕ)
 markChecks r m = readyChecks r ++ ((isReply m, 20) ∷ [])
 
 abbrev pub formChecks : Replica → List ℕ → ℕ → List (Bool × ℕ)
-formChecks r m room = markChecks r m ++ ((leb 80 room, 7) ∷ [])
+formChecks r m room = markChecks r m ++ ((leb commitLength room, 7) ∷ [])
 
 abbrev pub lastChecks : Replica → List ℕ → List (Bool × ℕ)
 lastChecks r m = (lastOk r m, 24) ∷ []

@@ -12,10 +12,6 @@ ghost use lib.ListN.{length};
 
 // Words of a line
 
-fn byte(line: &[u8], k: usize) -> u8 {
-    call_lines::number_at(line, k, 255) as u8
-}
-
 // The place of a replica: that of the last one for a number above 3.
 fn slot(line: &[u8], k: usize) -> usize
     ensures { λ r. ⌜ r + 1382 ≤ 5528 ⌝ }
@@ -99,51 +95,33 @@ fn replica_of(state: &[u8]) -> Replica
     }
 }
 
-fn copy_part(state: &mut [u8], at: usize, part: &[u8]) {
-    if at <= state.len() {
-        if part.len() <= state.len() - at {
-            slices::copy_to(state, at, part);
-        }
-    }
-}
-
-fn copy_byte(state: &mut [u8], at: usize, n: u8) {
-    let bytes = [n];
-    copy_part(state, at, &bytes);
-}
-
-fn copy_word(state: &mut [u8], at: usize, n: u32) {
-    let bytes = slices::word_bytes(n);
-    copy_part(state, at, &bytes);
-}
-
 fn copy_keys(state: &mut [u8], keys: [u8; 256]) {
-    copy_part(state, 1, &keys);
+    call_lines::copy_part(state, 1, &keys);
 }
 
 fn copy_current(state: &mut [u8], current: Operation) {
     let bytes = operation::op_bytes(current);
-    copy_part(state, 261, &bytes);
+    call_lines::copy_part(state, 261, &bytes);
 }
 
 fn copy_chain(state: &mut [u8], chain: [u8; 1056]) {
-    copy_part(state, 277, &chain);
+    call_lines::copy_part(state, 277, &chain);
 }
 
 fn copy_statuses(state: &mut [u8], statuses: [u8; 32]) {
-    copy_part(state, 1333, &statuses);
+    call_lines::copy_part(state, 1333, &statuses);
 }
 
 fn copy_cells(state: &mut [u8], cells: [u8; 16]) {
-    copy_part(state, 1365, &cells);
+    call_lines::copy_part(state, 1365, &cells);
 }
 
 fn store_numbers(state: &mut [u8], r: Replica) {
-    copy_byte(state, 0, r.number);
-    copy_word(state, 257, r.count);
-    copy_word(state, 269, r.confirmed);
-    copy_word(state, 273, r.held);
-    copy_byte(state, 1381, r.halt);
+    call_lines::copy_byte(state, 0, r.number);
+    call_lines::copy_word(state, 257, r.count);
+    call_lines::copy_word(state, 269, r.confirmed);
+    call_lines::copy_word(state, 273, r.held);
+    call_lines::copy_byte(state, 1381, r.halt);
 }
 
 fn store(state: &mut [u8], r: Replica) {
@@ -163,16 +141,16 @@ fn store(state: &mut [u8], r: Replica) {
 // Calls
 
 fn open(line: &[u8]) -> Stepped {
-    let number = byte(line, 2);
+    let number = call_lines::byte_at(line, 2);
     let mut keys = io::buffer();
     let n = call_lines::bytes_at(line, 3, &mut keys);
     client::open(number, &keys[0..n])
 }
 
 fn invoke(r: Replica, line: &[u8], out: &mut [u8]) -> Stepped {
-    let kind = byte(line, 3);
-    let cell = byte(line, 4);
-    let amount = byte(line, 5);
+    let kind = call_lines::byte_at(line, 3);
+    let cell = call_lines::byte_at(line, 4);
+    let amount = call_lines::byte_at(line, 5);
     client::invoke(r, kind, cell, amount, out)
 }
 
@@ -214,21 +192,13 @@ fn empty() -> [u8; 1382]
     [0; 1382]
 }
 
-// Puts a replica among the states, and prints its digest.
-fn keep(states: &mut [u8], to: usize, state: &[u8])
-    requires { ⌜ length (now state) ≤ 65535 ⌝ }
-{
-    copy_part(states, to, state);
-    call_lines::put_digest(state);
-}
-
 fn after(states: &mut [u8], to: usize, stepped: Stepped) {
     let replica = stepped.replica;
     let outcome = stepped.outcome;
     put_outcome(outcome);
     let mut state = empty();
     store(&mut state, replica);
-    keep(states, to, &state);
+    call_lines::keep(states, to, &state);
 }
 
 fn call(states: &mut [u8], line: &[u8], letter: u8)
@@ -259,7 +229,7 @@ fn change(states: &mut [u8], line: &[u8])
     let mut state = state_at(states, from);
     set_bytes(&mut state, line);
     call_lines::put(b"changed");
-    keep(states, to, &state);
+    call_lines::keep(states, to, &state);
 }
 
 fn state_at(states: &[u8], at: usize) -> [u8; 1382]
@@ -278,18 +248,11 @@ fn opened(states: &mut [u8], line: &[u8]) {
     after(states, to, stepped);
 }
 
-fn first(line: &[u8]) -> u8 {
-    if line.len() == 0 {
-        return 0;
-    }
-    line[0]
-}
-
 // A line's first letter says what it asks.
 fn one(states: &mut [u8], line: &[u8])
     requires { ⌜ 5528 ≤ length (now states) ⌝ }
 {
-    let letter = first(line);
+    let letter = call_lines::letter(line);
     if letter == b'#' {
         call_lines::put(line);
         return;
@@ -323,15 +286,9 @@ fn zeros() -> [u8; 5528]
     [0; 5528]
 }
 
-fn room() -> [u8; 1048576]
-    ensures { λ r. ⌜ 1048576 ≡ length r ⌝ }
-{
-    [0; 1048576]
-}
-
 fn main() {
     let mut states = zeros();
-    let mut text = room();
+    let mut text = call_lines::room();
     let n = io::read_full(STDIN_FILENO, &mut text);
     lines(&mut states, &text[..n]);
 }

@@ -3,17 +3,16 @@
 ghost use mathlib.Core.Path.{_≡_};
 ghost use lib.ListN.{length};
 ghost use Rattle.replica.specs.Replica.{over};
-ghost use Rattle.client_invoke.specs.Invoke.{openStep, invokeStep};
+ghost use Rattle.client_open.specs.Open.{openStep};
+ghost use Rattle.client_invoke.specs.Invoke.{invokeStep};
 ghost use Rattle.client.specs.Receive.{receiveStep};
 ghost use Rattle.server.specs.Server.{freshServer, serverStep};
 ghost use Rattle.sha256.specs.Sha256.{digestNo, digestOut};
 ghost use Rattle.hmac.specs.Hmac.{tagNo, tagOut};
 ghost use Rattle.cop_said.specs.Said.{said, serverSaid};
 use cop_said::Said;
-use hmac::Tagged;
 use replica::Replica;
 use server::Server;
-use sha256::Digested;
 
 // A client's state after its opening, and what the opening says.
 #[repr(C)]
@@ -83,10 +82,7 @@ pub extern "C" fn cop_serve(s: &mut Server, line: u8, m: &[u8], out: &mut [u8]) 
 pub extern "C" fn cop_digest(input: &[u8], out: &mut [u8; 32]) -> u32
     ensures { λ r. ⌜ (r ≡ digestNo (now (input .entry))) × (now (out .exit) ≡ digestOut (now (input .entry)) (now (out .entry))) ⌝ }
 {
-    match sha256::digest(input, out) {
-        Digested::Done => 0,
-        Digested::TooLong => 9,
-    }
+    cop_digest::cop_digest(input, out)
 }
 
 // The tag: 32 bytes to `out` and 0, or 9 and `out` as it was.
@@ -94,8 +90,5 @@ pub extern "C" fn cop_digest(input: &[u8], out: &mut [u8; 32]) -> u32
 pub extern "C" fn cop_tag(key: &[u8], input: &[u8], out: &mut [u8; 32]) -> u32
     ensures { λ r. ⌜ (r ≡ tagNo (now (key .entry)) (now (input .entry))) × (now (out .exit) ≡ tagOut (now (key .entry)) (now (input .entry)) (now (out .entry))) ⌝ }
 {
-    match hmac::tag(key, input, out) {
-        Tagged::Done => 0,
-        Tagged::TooLong => 9,
-    }
+    cop_digest::cop_tag(key, input, out)
 }

@@ -1,20 +1,21 @@
 -- Laws of the definitions of specs/: writing part by part, tests, lengths.
-use Prim.Native.Nat.{ℕ, _+_, _*_, _≤_}
+use Prim.Native.Nat.{ℕ, _+_, _*_, _<_, _≤_}
 use mathlib.Core.Path.{_≡_, refl, sym, ap, _∙_}
 use mathlib.Core.List.{List, [], _∷_, _++_, append-nil, append-assoc}
 use mathlib.Core.Bool.{true, _&&_}
 use lib.Dec.{leb, eqb}
-use lib.ListN.{length, take, drop, replicate, length-append, length-take, drop-of-length-le}
-use lib.Seq.{take-append-seam, drop-append-add, drop-drop}
+use lib.ListN.{length, take, drop, replicate, length-append, length-take, take-append-drop, drop-of-length-le}
+use lib.Seq.{take-append-seam, drop-append-add, drop-drop, take-at, drop-at}
 use native.Mathlib.Omega.{arith}
 use borrow.Author.Needs.{needs}
 use borrow.Author.Tests.{leb-true, eqb-true}
 use Rattle.slices.specs.Bytes.{put, bigEndian}
 use Rattle.operation.specs.declared.Operation.{Operation}
 use Rattle.operation.specs.Operation.{opBytes}
-use Rattle.slices.proofs.Laws.{and-yes}
+use Rattle.slices.proofs.Laws.{and-yes, part-left}
 use Rattle.message.specs.declared.Item.{Item}
 use Rattle.message.specs.declared.Commit.{Commit}
+use Rattle.message.specs.Layout.{digestAt}
 use Rattle.message.specs.Readers.{ItemsFit, none, more}
 use Rattle.message.specs.Message.{invokeString, commitString, chainString, itemBytes, itemsBytes, commitFields, invokeBytes, replyBytes, commitBytes, broadcastBytes, marked, isInvoke, isReply, isCommit, isBroadcast, replyCount}
 
@@ -48,6 +49,45 @@ unfolding opBytes bigEndian
 chain-parts value e seq author h =
     four-parts (replicate 45 0) value (opBytes e) 0 32 40 (search needs) (omega arith) refl (bigEndian 4 seq) (author ∷ []) 44 45 refl refl
     ∙ append-nil _
+
+-- ---- digests one after the other, one of them put
+module _ (s v : List ℕ) (i : ℕ) (l : length v ≡ 32) (h : i * 32 + 32 ≤ length s) where
+  before-length : length (take (i * 32) s) ≡ i * 32
+  before-length = simp length-take (omega arith)
+
+  pub digest-kept : (j : ℕ) → j < i → digestAt j (put s (i * 32) v) ≡ digestAt j s
+  unfolding digestAt
+  digest-kept j g =
+      let p = take (i * 32) s in
+      let a : j * 32 + 32 ≤ length p = omega (arith, before-length) in
+      ap (λ (z : List ℕ). take 32 (drop (j * 32) z)) (append-assoc p v (drop (i * 32 + length v) s))
+      ∙ part-left 32 (j * 32) p (v ++ drop (i * 32 + length v) s) a
+      ∙ sym (part-left 32 (j * 32) p (drop (i * 32) s) a)
+      ∙ ap (λ (z : List ℕ). take 32 (drop (j * 32) z)) (take-append-drop (i * 32) s)
+
+  pub digest-put : digestAt i (put s (i * 32) v) ≡ v
+  unfolding digestAt
+  digest-put =
+      let p = take (i * 32) s in
+      let q = drop (i * 32 + length v) s in
+      ap (λ (z : List ℕ). take 32 (drop (i * 32) z)) (append-assoc p v q)
+      ∙ ap (take 32) (drop-at p (v ++ q) (i * 32) before-length)
+      ∙ take-at v q 32 l
+
+-- ---- the same bytes, taken apart another way
+-- an invoke is its mark and an item; a commit its mark and the fields that a broadcast has too
+pub invoke-item : (i : Item) → invokeBytes i ≡ 73 ∷ 78 ∷ itemBytes i
+unfolding invokeBytes invokeString itemBytes opBytes bigEndian
+invoke-item i = refl
+
+pub commit-marked : (k : Commit) → commitBytes k ≡ 67 ∷ 79 ∷ commitFields k
+unfolding commitBytes commitString commitFields
+commit-marked k = refl
+
+-- the fields of a commit, one after the other
+pub fields-are : (k : Commit) → commitFields k ≡ opBytes (k .op) ++ (k .author ∷ bigEndian 4 (k .seq)) ++ k .digest ++ (k .status ∷ k .tag)
+unfolding commitFields opBytes bigEndian
+fields-are k = rw (append-assoc (k .digest) (k .status ∷ []) (k .tag))
 
 -- ---- items
 pub items-join : (is js : List Item) → itemsBytes (is ++ js) ≡ itemsBytes is ++ itemsBytes js
@@ -123,16 +163,14 @@ unfolding chainString opBytes bigEndian
 chain-string-length value e seq author h = simp (length-append, h)
 
 pub invoke-bytes-length : (i : Item) → length (i .tag) ≡ 32 → length (invokeBytes i) ≡ 43
-unfolding invokeBytes
-invoke-bytes-length i h = rw (item-length i h)
+invoke-bytes-length i h = rw (invoke-item i, item-length i h)
 
 pub fields-length : (k : Commit) → length (k .digest) ≡ 32 → length (k .tag) ≡ 32 → length (commitFields k) ≡ 78
 unfolding commitFields opBytes bigEndian
-fields-length k h t = rw (length-append (k .digest) (k .status ∷ k .tag), h, t)
+fields-length k h t = rw (length-append (k .digest ++ (k .status ∷ [])) (k .tag), length-append (k .digest) (k .status ∷ []), h, t)
 
 pub commit-bytes-length : (k : Commit) → length (k .digest) ≡ 32 → length (k .tag) ≡ 32 → length (commitBytes k) ≡ 80
-unfolding commitBytes
-commit-bytes-length k h t = rw (fields-length k h t)
+commit-bytes-length k h t = rw (commit-marked k, fields-length k h t)
 
 pub broadcast-bytes-length : (k : Commit) → length (k .digest) ≡ 32 → length (k .tag) ≡ 32 → length (broadcastBytes k) ≡ 80
 unfolding broadcastBytes
@@ -144,9 +182,9 @@ reply-bytes-length fs = omega (arith, items-length fs)
 
 -- ---- a message is the string under its tag, and the tag
 pub invoke-tagged : (i : Item) → invokeString (i .op) (i .author) ++ i .tag ≡ invokeBytes i
-unfolding invokeString invokeBytes itemBytes opBytes bigEndian
+unfolding invokeBytes
 invoke-tagged i = refl
 
 pub commit-tagged : (k : Commit) → commitString (k .op) (k .author) (k .seq) (k .digest) (k .status) ++ k .tag ≡ commitBytes k
-unfolding commitString commitBytes commitFields opBytes bigEndian
-commit-tagged k = rw (append-assoc (k .digest) (k .status ∷ []) (k .tag))
+unfolding commitBytes
+commit-tagged k = refl

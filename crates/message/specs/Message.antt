@@ -1,4 +1,4 @@
--- The four records and the strings under digest and tag: document 01, "Marks and messages".
+-- The four records and the strings under digest and tag: document 01, "Marks and messages". Lengths and offsets: Layout.antt.
 use Prim.Native.Nat.{ℕ, zero, suc, _+_, _*_}
 use mathlib.Core.List.{List, [], _∷_, _++_}
 use mathlib.Core.Bool.{Bool, _&&_}
@@ -6,7 +6,8 @@ use lib.ListN.{length, getD, take, drop}
 use lib.Dec.{leb, eqb}
 use Rattle.slices.specs.Bytes.{bigEndian, wordAt}
 use Rattle.operation.specs.declared.Operation.{Operation}
-use Rattle.operation.specs.Operation.{opBytes, opAt}
+use Rattle.operation.specs.Operation.{maxPending, opBytes, opAt}
+use Rattle.message.specs.Layout.{tagLength, digestLength, markLength, itemAuthor, itemTag, itemLength, invokeLength, countOffset, replyHead, authorOffset, seqOffset, digestOffset, statusOffset, tagOffset, commitLength}
 use Rattle.message.specs.declared.Item.{Item}
 use Rattle.message.specs.declared.Commit.{Commit}
 
@@ -14,9 +15,13 @@ use Rattle.message.specs.declared.Commit.{Commit}
 unfoldable pub invokeString : Operation → ℕ → List ℕ
 invokeString e author = 73 ∷ 78 ∷ opBytes e ++ (author ∷ [])
 
+-- "entry, author, place, digest, status", 46 bytes
+abbrev pub commitBody : Operation → ℕ → ℕ → List ℕ → ℕ → List ℕ
+commitBody e author seq digest status = opBytes e ++ (author ∷ bigEndian 4 seq) ++ digest ++ (status ∷ [])
+
 -- "The CO tag is over CO, entry, author, place, digest, status (48 bytes)."
 unfoldable pub commitString : Operation → ℕ → ℕ → List ℕ → ℕ → List ℕ
-commitString e author seq digest status = 67 ∷ 79 ∷ opBytes e ++ (author ∷ bigEndian 4 seq) ++ digest ++ (status ∷ [])
+commitString e author seq digest status = 67 ∷ 79 ∷ commitBody e author seq digest status
 
 -- "At place p it is the digest of 45 bytes: value at p − 1, entry, p, author."
 unfoldable pub chainString : List ℕ → Operation → ℕ → ℕ → List ℕ
@@ -30,53 +35,55 @@ unfoldable pub itemsBytes : List Item → List ℕ
 itemsBytes [] = []
 itemsBytes (i ∷ is) = itemBytes i ++ itemsBytes is
 
--- "entry, author, place, digest (32), status, tag", 78 bytes
-unfoldable pub commitFields : Commit → List ℕ
-commitFields k =
-    opBytes (k .op) ++ (k .author ∷ bigEndian 4 (k .seq)) ++ k .digest ++ (k .status ∷ k .tag)
-
--- "`IN`: entry, author, tag. 43 bytes." "`RE`: number of items n …, then n items." "`CO` and `BR`: … 80 bytes."
+-- "`IN`: entry, author, tag. 43 bytes.": the string under its tag, then the tag
 unfoldable pub invokeBytes : Item → List ℕ
-invokeBytes i = 73 ∷ 78 ∷ itemBytes i
+invokeBytes i = invokeString (i .op) (i .author) ++ i .tag
 
+-- "`RE`: number of items n …, then n items …. 3 + 41 × n bytes."
 unfoldable pub replyBytes : List Item → List ℕ
 replyBytes is = 82 ∷ 69 ∷ length is ∷ itemsBytes is
 
+-- "`CO` and `BR`: entry, author, place, digest (32), status, tag. 80 bytes.": the string under its tag, then the tag
 unfoldable pub commitBytes : Commit → List ℕ
-commitBytes k = 67 ∷ 79 ∷ commitFields k
+commitBytes k = commitString (k .op) (k .author) (k .seq) (k .digest) (k .status) ++ k .tag
 
+-- what both have after the mark, 78 bytes
+unfoldable pub commitFields : Commit → List ℕ
+commitFields k = commitBody (k .op) (k .author) (k .seq) (k .digest) (k .status) ++ k .tag
+
+-- "A `BR` carries the `CO` tag unchanged."
 unfoldable pub broadcastBytes : Commit → List ℕ
 broadcastBytes k = 66 ∷ 82 ∷ commitFields k
 
 -- ---- reading: mark and exact length first, then the fields, each any number
 -- "Each record begins with two ASCII letters."
 unfoldable pub marked : ℕ → ℕ → List ℕ → Bool
-marked a b m = leb 2 (length m) && eqb (getD m 0 0) a && eqb (getD m 1 0) b
+marked a b m = leb markLength (length m) && eqb (getD m 0 0) a && eqb (getD m 1 0) b
 
 unfoldable pub isInvoke : List ℕ → Bool
-isInvoke m = marked 73 78 m && eqb (length m) 43
+isInvoke m = marked 73 78 m && eqb (length m) invokeLength
 
 -- the number of items that a reply says it has
 abbrev pub replyCount : List ℕ → ℕ
-replyCount m = getD m 2 0
+replyCount m = getD m countOffset 0
 
 -- "n (one byte, 0 to 32) … 3 + 41 × n bytes"
 unfoldable pub isReply : List ℕ → Bool
-isReply m = marked 82 69 m && leb 3 (length m) && leb (replyCount m) 32 && eqb (length m) (3 + replyCount m * 41)
+isReply m = marked 82 69 m && leb replyHead (length m) && leb (replyCount m) maxPending && eqb (length m) (replyHead + replyCount m * itemLength)
 
 unfoldable pub isCommit : List ℕ → Bool
-isCommit m = marked 67 79 m && eqb (length m) 80
+isCommit m = marked 67 79 m && eqb (length m) commitLength
 
 unfoldable pub isBroadcast : List ℕ → Bool
-isBroadcast m = marked 66 82 m && eqb (length m) 80
+isBroadcast m = marked 66 82 m && eqb (length m) commitLength
 
 -- the item at byte i
 unfoldable pub itemAt : List ℕ → ℕ → Item
-itemAt m i = record { op = opAt m i; author = getD m (i + 8) 0; tag = take 32 (drop (i + 9) m) }
+itemAt m i = record { op = opAt m i; author = getD m (i + itemAuthor) 0; tag = take tagLength (drop (i + itemTag) m) }
 
 -- item k of a reply, counted from 0, and its first n items
 abbrev pub replyItem : List ℕ → ℕ → Item
-replyItem m k = itemAt m (3 + k * 41)
+replyItem m k = itemAt m (replyHead + k * itemLength)
 
 unfoldable pub replyItems : List ℕ → ℕ → List Item
 replyItems m zero = []
@@ -86,10 +93,10 @@ replyItems m (suc k) = replyItems m k ++ (replyItem m k ∷ [])
 unfoldable pub commitOf : List ℕ → Commit
 commitOf m =
     record {
-      op = opAt m 2;
-      author = getD m 10 0;
-      seq = wordAt m 11;
-      digest = take 32 (drop 15 m);
-      status = getD m 47 0;
-      tag = take 32 (drop 48 m);
+      op = opAt m markLength;
+      author = getD m authorOffset 0;
+      seq = wordAt m seqOffset;
+      digest = take digestLength (drop digestOffset m);
+      status = getD m statusOffset 0;
+      tag = take tagLength (drop tagOffset m);
     }

@@ -9,39 +9,33 @@ use Rattle.message.specs.declared.Item.{Item}
 use Rattle.message.specs.declared.Commit.{Commit}
 use Rattle.message.specs.declared.ReadItem.{ReadItem}
 use Rattle.message.specs.declared.ReadCommit.{ReadCommit}
-use Rattle.message.specs.declared.ReadReply.{ReadReply}
-use Rattle.message.specs.Message.{isInvoke, isReply, isCommit, isBroadcast, itemAt, commitOf, replyCount}
+use Rattle.message.specs.Layout.{markLength, digestLength, tagLength}
+use Rattle.message.specs.Message.{isInvoke, isCommit, itemAt, commitOf}
 
 -- no item and no commit: every field zero
 abbrev pub noItem : Item
-noItem = record { op = noOp; author = 0; tag = replicate 32 0 }
+noItem = record { op = noOp; author = 0; tag = replicate tagLength 0 }
 
 abbrev pub noCommit : Commit
-noCommit = record { op = noOp; author = 0; seq = 0; digest = replicate 32 0; status = 0; tag = replicate 32 0 }
+noCommit = record { op = noOp; author = 0; seq = 0; digest = replicate digestLength 0; status = 0; tag = replicate tagLength 0 }
 
 -- the message where mark and length are right, else no and zero
 unfoldable pub readInvoke : List ℕ → ReadItem
-readInvoke m = record { ok = isInvoke m; item = cond (isInvoke m) (itemAt m 2) noItem }
+readInvoke m = record { ok = isInvoke m; item = cond (isInvoke m) (itemAt m markLength) noItem }
 
 unfoldable pub readCommit : List ℕ → ReadCommit
 readCommit m = record { ok = isCommit m; commit = cond (isCommit m) (commitOf m) noCommit }
 
-unfoldable pub readBroadcast : List ℕ → ReadCommit
-readBroadcast m = record { ok = isBroadcast m; commit = cond (isBroadcast m) (commitOf m) noCommit }
-
-unfoldable pub readReply : List ℕ → ReadReply
-readReply m = record { ok = isReply m; count = cond (isReply m) (replyCount m) 0 }
-
 -- the fields fit their places: four bytes for count and sequence number, 32 for digest and tag
 pub record ItemFits (i : Item) : Type 0 where
   pub count : i .op .count < 2 ^ 32
-  pub tag : length (i .tag) ≡ 32
+  pub tag : length (i .tag) ≡ tagLength
 
 pub record CommitFits (k : Commit) : Type 0 where
   pub count : k .op .count < 2 ^ 32
   pub seq : k .seq < 2 ^ 32
-  pub digest : length (k .digest) ≡ 32
-  pub tag : length (k .tag) ≡ 32
+  pub digest : length (k .digest) ≡ digestLength
+  pub tag : length (k .tag) ≡ tagLength
 
 pub data ItemsFit : List Item → Type 0 where
   none : ItemsFit []

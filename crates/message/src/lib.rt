@@ -1,19 +1,74 @@
-// The four messages: the strings under digest and tag, and readers of any bytes. Definitions: specs/Message.antt.
+// The four messages: their layout, the strings under digest and tag, and readers of any bytes. Definitions: specs/Layout.antt, specs/Message.antt.
 use operation::Operation;
 ghost use mathlib.Core.Path.{_≡_};
 ghost use mathlib.Core.List.{[], _∷_, _++_};
 ghost use Prim.Native.Nat.{_+_, _*_, _≤_};
 ghost use lib.ListN.{length};
 ghost use Rattle.slices.specs.Bytes.{bigEndian};
-ghost use Rattle.operation.specs.Operation.{opBytes, noOp};
-ghost use Rattle.message.specs.Message.{invokeString, commitString, chainString, marked, isInvoke, isReply, isCommit, isBroadcast, itemAt, replyItem, commitOf};
-ghost use Rattle.message.specs.Readers.{noItem, noCommit, readInvoke, readCommit, readBroadcast, readReply};
+ghost use Rattle.operation.specs.Operation.{opBytes};
+ghost use Rattle.message.specs.Layout.{itemLength, replyHead, commitLength};
+ghost use Rattle.message.specs.Message.{invokeString, commitBody, commitString, chainString, marked, isInvoke, isReply, isCommit, isBroadcast, itemAt, replyItem, commitOf};
+ghost use Rattle.message.specs.Readers.{noItem, noCommit, readInvoke, readCommit};
+
+// Clients are 1 to `CLIENTS`, sequence numbers 1 to `MAX_SEQ`.
+pub const CLIENTS: u8 = 8;
+
+pub const MAX_SEQ: u32 = 1000000;
+
+// Lengths in bytes.
+pub const DIGEST_LENGTH: usize = 32;
+
+pub const TAG_LENGTH: usize = 32;
+
+pub const KEY_LENGTH: usize = 32;
+
+pub const KEYS_LENGTH: usize = 256;
+
+pub const MARK_LENGTH: usize = 2;
+
+pub const ITEM_LENGTH: usize = 41;
+
+pub const INVOKE_LENGTH: usize = 43;
+
+pub const COMMIT_LENGTH: usize = 80;
+
+// Where author and tag begin in an item.
+pub const ITEM_AUTHOR: usize = 8;
+
+pub const ITEM_TAG: usize = 9;
+
+// The strings under an invoke's tag and under a chain value; in the latter: operation, sequence number and author.
+pub const INVOKE_STRING: usize = 11;
+
+pub const LINK_STRING: usize = 45;
+
+pub const LINK_OP: usize = 32;
+
+pub const LINK_SEQ: usize = 40;
+
+pub const LINK_AUTHOR: usize = 44;
+
+// In a reply: the number of items, and the first item.
+pub const COUNT_OFFSET: usize = 2;
+
+pub const REPLY_HEAD: usize = 3;
+
+// In a commit and a broadcast: author, sequence number, digest, status and tag.
+pub const AUTHOR_OFFSET: usize = 10;
+
+pub const SEQ_OFFSET: usize = 11;
+
+pub const DIGEST_OFFSET: usize = 15;
+
+pub const STATUS_OFFSET: usize = 47;
+
+pub const TAG_OFFSET: usize = 48;
 
 // An operation with its author and the author's tag: what an invoke carries, and each item of a reply.
 pub struct Item {
     pub op: Operation,
     pub author: u8,
-    pub tag: [u8; 32],
+    pub tag: [u8; TAG_LENGTH],
 }
 
 // What a commit and a broadcast carry.
@@ -21,9 +76,9 @@ pub struct Commit {
     pub op: Operation,
     pub author: u8,
     pub seq: u32,
-    pub digest: [u8; 32],
+    pub digest: [u8; DIGEST_LENGTH],
     pub status: u8,
-    pub tag: [u8; 32],
+    pub tag: [u8; TAG_LENGTH],
 }
 
 // What a reader of any bytes gives: whether they are the message, and its content, zero where they are not.
@@ -37,13 +92,8 @@ pub struct ReadCommit {
     pub commit: Commit,
 }
 
-pub struct ReadReply {
-    pub ok: bool,
-    pub count: u8,
-}
-
 // The 11 bytes of mark, operation and author.
-fn head(a: u8, b: u8, e: Operation, author: u8) -> [u8; 11]
+fn head(a: u8, b: u8, e: Operation, author: u8) -> [u8; INVOKE_STRING]
     ensures { λ r. ⌜ r ≡ a ∷ b ∷ opBytes e ++ (author ∷ []) ⌝ }
 {
     let t = operation::op_bytes(e);
@@ -57,46 +107,57 @@ pub fn front(
     e: Operation,
     author: u8,
     seq: u32,
-    digest: [u8; 32],
+    digest: [u8; DIGEST_LENGTH],
     status: u8,
-) -> [u8; 48]
-    ensures { λ r. ⌜ r ≡ a ∷ b ∷ opBytes e ++ (author ∷ bigEndian 4 seq) ++ digest ++ (status ∷ []) ⌝ }
+) -> [u8; TAG_OFFSET]
+    ensures { λ r. ⌜ r ≡ a ∷ b ∷ commitBody e author seq digest status ⌝ }
 {
-    let mut t = [0u8; 48];
+    let mut t = [0u8; TAG_OFFSET];
     let h = head(a, b, e, author);
     let w = slices::word_bytes(seq);
     slices::copy_to(&mut t, 0, &h);
-    slices::copy_to(&mut t, 11, &w);
-    slices::copy_to(&mut t, 15, &digest);
-    slices::copy_to(&mut t, 47, &[status]);
+    slices::copy_to(&mut t, SEQ_OFFSET, &w);
+    slices::copy_to(&mut t, DIGEST_OFFSET, &digest);
+    slices::copy_to(&mut t, STATUS_OFFSET, &[status]);
     t
 }
 
 // The string under an invoke's tag.
-pub fn invoke_string(e: Operation, author: u8) -> [u8; 11]
+pub fn invoke_string(e: Operation, author: u8) -> [u8; INVOKE_STRING]
     ensures { λ r. ⌜ r ≡ invokeString e author ⌝ }
 {
     head(73, 78, e, author)
 }
 
 // The string under a commit's tag.
-pub fn commit_string(e: Operation, author: u8, seq: u32, digest: [u8; 32], status: u8) -> [u8; 48]
+pub fn commit_string(
+    e: Operation,
+    author: u8,
+    seq: u32,
+    digest: [u8; DIGEST_LENGTH],
+    status: u8,
+) -> [u8; TAG_OFFSET]
     ensures { λ r. ⌜ r ≡ commitString e author seq digest status ⌝ }
 {
     front(67, 79, e, author, seq, digest, status)
 }
 
 // The string under the hash chain's value at `seq`; `value` is the one before it.
-pub fn chain_string(value: [u8; 32], e: Operation, seq: u32, author: u8) -> [u8; 45]
+pub fn chain_string(
+    value: [u8; DIGEST_LENGTH],
+    e: Operation,
+    seq: u32,
+    author: u8,
+) -> [u8; LINK_STRING]
     ensures { λ r. ⌜ r ≡ chainString value e seq author ⌝ }
 {
-    let mut t = [0u8; 45];
+    let mut t = [0u8; LINK_STRING];
     let o = operation::op_bytes(e);
     let w = slices::word_bytes(seq);
     slices::copy_to(&mut t, 0, &value);
-    slices::copy_to(&mut t, 32, &o);
-    slices::copy_to(&mut t, 40, &w);
-    slices::copy_to(&mut t, 44, &[author]);
+    slices::copy_to(&mut t, LINK_OP, &o);
+    slices::copy_to(&mut t, LINK_SEQ, &w);
+    slices::copy_to(&mut t, LINK_AUTHOR, &[author]);
     t
 }
 
@@ -104,7 +165,7 @@ pub fn chain_string(value: [u8; 32], e: Operation, seq: u32, author: u8) -> [u8;
 pub fn is_marked(a: u8, b: u8, m: &[u8]) -> bool
     ensures { λ r. ⌜ r ≡ marked a b (now (m .entry)) ⌝ }
 {
-    if 2 <= m.len() {
+    if MARK_LENGTH <= m.len() {
         (m[0] == a) & (m[1] == b)
     } else {
         false
@@ -114,16 +175,16 @@ pub fn is_marked(a: u8, b: u8, m: &[u8]) -> bool
 pub fn is_invoke(m: &[u8]) -> bool
     ensures { λ r. ⌜ r ≡ isInvoke (now (m .entry)) ⌝ }
 {
-    is_marked(73, 78, m) & (m.len() == 43)
+    is_marked(73, 78, m) & (m.len() == INVOKE_LENGTH)
 }
 
 pub fn is_reply(m: &[u8]) -> bool
     ensures { λ r. ⌜ r ≡ isReply (now (m .entry)) ⌝ }
 {
     let marked = is_marked(82, 69, m);
-    if 3 <= m.len() {
-        let n = m[2] as usize;
-        marked & (n <= 32) & (m.len() == 3 + n * 41)
+    if REPLY_HEAD <= m.len() {
+        let n = m[COUNT_OFFSET] as usize;
+        marked & (n <= operation::MAX_PENDING) & (m.len() == REPLY_HEAD + n * ITEM_LENGTH)
     } else {
         false
     }
@@ -132,59 +193,47 @@ pub fn is_reply(m: &[u8]) -> bool
 pub fn is_commit(m: &[u8]) -> bool
     ensures { λ r. ⌜ r ≡ isCommit (now (m .entry)) ⌝ }
 {
-    is_marked(67, 79, m) & (m.len() == 80)
+    is_marked(67, 79, m) & (m.len() == COMMIT_LENGTH)
 }
 
 pub fn is_broadcast(m: &[u8]) -> bool
     ensures { λ r. ⌜ r ≡ isBroadcast (now (m .entry)) ⌝ }
 {
-    is_marked(66, 82, m) & (m.len() == 80)
+    is_marked(66, 82, m) & (m.len() == COMMIT_LENGTH)
 }
 
 // The item at byte `i`.
 pub fn read_item(m: &[u8], i: usize) -> Item
-    requires { ⌜ i + 41 ≤ length (now m) ⌝ }
+    requires { ⌜ i + itemLength ≤ length (now m) ⌝ }
     ensures { λ r. ⌜ r ≡ itemAt (now (m .entry)) i ⌝ }
 {
     Item {
         op: operation::read_op(m, i),
-        author: m[i + 8],
-        tag: slices::part(m, i + 9),
+        author: m[i + ITEM_AUTHOR],
+        tag: slices::part(m, i + ITEM_TAG),
     }
 }
 
 // Item `k` of a reply.
 pub fn item_of(m: &[u8], k: usize) -> Item
-    requires { ⌜ 44 + k * 41 ≤ length (now m) ⌝ }
+    requires { ⌜ replyHead + (k + 1) * itemLength ≤ length (now m) ⌝ }
     ensures { λ r. ⌜ r ≡ replyItem (now (m .entry)) k ⌝ }
 {
-    read_item(m, 3 + k * 41)
+    read_item(m, REPLY_HEAD + k * ITEM_LENGTH)
 }
 
-// The commit in a commit or broadcast.
-pub fn read_commit(m: &[u8]) -> Commit
-    requires { ⌜ 80 ≤ length (now m) ⌝ }
+// The fields of a commit or broadcast.
+pub fn commit_of(m: &[u8]) -> Commit
+    requires { ⌜ commitLength ≤ length (now m) ⌝ }
     ensures { λ r. ⌜ r ≡ commitOf (now (m .entry)) ⌝ }
 {
     Commit {
-        op: operation::read_op(m, 2),
-        author: m[10],
-        seq: slices::word_at(m, 11),
-        digest: slices::part(m, 15),
-        status: m[47],
-        tag: slices::part(m, 48),
-    }
-}
-
-fn no_op() -> Operation
-    ensures { λ r. ⌜ r ≡ noOp ⌝ }
-{
-    Operation {
-        count: 0,
-        kind: 0,
-        cell: 0,
-        amount: 0,
-        last: 0,
+        op: operation::read_op(m, MARK_LENGTH),
+        author: m[AUTHOR_OFFSET],
+        seq: slices::word_at(m, SEQ_OFFSET),
+        digest: slices::part(m, DIGEST_OFFSET),
+        status: m[STATUS_OFFSET],
+        tag: slices::part(m, TAG_OFFSET),
     }
 }
 
@@ -192,8 +241,8 @@ fn no_op() -> Operation
 pub fn no_item() -> Item
     ensures { λ r. ⌜ r ≡ noItem ⌝ }
 {
-    let op = no_op();
-    let tag = [0u8; 32];
+    let op = operation::no_op();
+    let tag = [0u8; TAG_LENGTH];
     Item { op, author: 0, tag }
 }
 
@@ -201,9 +250,9 @@ pub fn no_item() -> Item
 pub fn no_commit() -> Commit
     ensures { λ r. ⌜ r ≡ noCommit ⌝ }
 {
-    let op = no_op();
-    let digest = [0u8; 32];
-    let tag = [0u8; 32];
+    let op = operation::no_op();
+    let digest = [0u8; DIGEST_LENGTH];
+    let tag = [0u8; TAG_LENGTH];
     Commit {
         op,
         author: 0,
@@ -219,7 +268,7 @@ pub fn read_invoke(m: &[u8]) -> ReadItem
     ensures { λ r. ⌜ r ≡ readInvoke (now (m .entry)) ⌝ }
 {
     if is_invoke(m) {
-        let item = read_item(m, 2);
+        let item = read_item(m, MARK_LENGTH);
         ReadItem { ok: true, item }
     } else {
         let item = no_item();
@@ -228,44 +277,14 @@ pub fn read_invoke(m: &[u8]) -> ReadItem
 }
 
 // The commit of a commit message, from any bytes.
-pub fn read_commit_message(m: &[u8]) -> ReadCommit
+pub fn read_commit(m: &[u8]) -> ReadCommit
     ensures { λ r. ⌜ r ≡ readCommit (now (m .entry)) ⌝ }
 {
     if is_commit(m) {
-        let commit = read_commit(m);
+        let commit = commit_of(m);
         ReadCommit { ok: true, commit }
     } else {
         let commit = no_commit();
         ReadCommit { ok: false, commit }
-    }
-}
-
-// The commit of a broadcast, from any bytes.
-pub fn read_broadcast(m: &[u8]) -> ReadCommit
-    ensures { λ r. ⌜ r ≡ readBroadcast (now (m .entry)) ⌝ }
-{
-    if is_broadcast(m) {
-        let commit = read_commit(m);
-        ReadCommit { ok: true, commit }
-    } else {
-        let commit = no_commit();
-        ReadCommit { ok: false, commit }
-    }
-}
-
-// How many items a reply has, from any bytes; item `k` is read at 3 + 41 × k.
-pub fn read_reply(m: &[u8]) -> ReadReply
-    ensures { λ r. ⌜ r ≡ readReply (now (m .entry)) ⌝ }
-{
-    if is_reply(m) {
-        ReadReply {
-            ok: true,
-            count: m[2],
-        }
-    } else {
-        ReadReply {
-            ok: false,
-            count: 0,
-        }
     }
 }

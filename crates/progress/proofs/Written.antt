@@ -11,10 +11,11 @@ use Rattle.operation.specs.Operation.{opOk}
 use Rattle.message.specs.declared.Item.{Item}
 use Rattle.message.specs.declared.Commit.{Commit}
 use Rattle.message.specs.Readers.{ItemFits, CommitFits}
-use Rattle.message.specs.Message.{invokeBytes, isInvoke, isCommit, itemAt, marked, commitBytes, commitFields, commitOf}
+use Rattle.message.specs.Message.{invokeString, commitString, invokeBytes, isInvoke, isCommit, itemAt, marked, commitBytes, commitFields, commitOf}
 use Rattle.round_trips.proofs.Operations.{ok-fits}
 use Rattle.round_trips.proofs.Messages as M
-use Rattle.verify.specs.Verify.{invokeTag, commitTag, valueAt}
+use Rattle.verify.specs.Verify.{invokeTag, commitTag}
+use Rattle.replica.specs.Places.{valueAt}
 use Rattle.verify.proofs.Laws.{invoke-tag-length, commit-tag-length}
 use Rattle.replica.specs.declared.Replica.{Replica}
 use Rattle.client_invoke.specs.Invoke.{invokeMessage}
@@ -31,7 +32,7 @@ asked-of : (g : Ghost) (n : ℕ) (h : Operation) (m : List ℕ) (i : Item) → i
 asked-of g n h m i f q o a k t = record { form = f; op = ap (λ (x : Item). x .op) q ∙ o; mine = ap (λ (x : Item). x .author) q ∙ a; fine = k; tag = rw q t }
 
 pub written-invoke : (r : Replica) (e : Operation) → written (invokeMessage r e) ≡ invokeMessage r e ∷ []
-unfolding written invokeMessage invokeBytes
+unfolding written invokeMessage invokeBytes invokeString
 written-invoke r e = refl
 
 -- the message asks for its operation
@@ -54,15 +55,15 @@ status-small true = omega arith
 status-small false = omega arith
 
 pub commit-no-invoke : (k : Commit) → isInvoke (commitBytes k) ≡ false
-unfolding isInvoke marked commitBytes
+unfolding isInvoke marked commitBytes commitString commitFields
 commit-no-invoke k = rw (le-leb 2 (suc (suc (length (commitFields k)))) (omega arith))
 
 pub written-commit : (r : Replica) (chain : List ℕ) (n : ℕ) (a : Bool) → written (commitMessage r chain n a) ≡ commitMessage r chain n a ∷ []
-unfolding written commitMessage commitBytes
+unfolding written commitMessage commitBytes commitString
 written-commit r chain n a = refl
 
 pub message-sent : (g : Ghost) (sv : Server) (c : ℕ) (r : Replica) (chain : List ℕ) (n : ℕ) (a : Bool) → r .number ≡ c → r .keys ≡ g .keys → opOk (r .current) ≡ true
-    → r .confirmed + n ≤ 1000000 → valueAt n chain ≡ chainOf g (r .confirmed + n) → Uncommitted sv c (r .confirmed + n) (r .current)
+    → r .confirmed + n ≤ 1000000 → valueAt (r .confirmed) n chain ≡ chainOf g (r .confirmed + n) → Uncommitted sv c (r .confirmed + n) (r .current)
     → Sent g sv c (commitMessage r chain n a)
 unfolding commitMessage
 message-sent g sv c r chain n a x q o l v w =
@@ -70,15 +71,15 @@ message-sent g sv c r chain n a x q o l v w =
       op = r .current;
       author = r .number;
       seq = r .confirmed + n;
-      digest = valueAt n chain;
+      digest = valueAt (r .confirmed) n chain;
       status = status a;
-      tag = commitTag (r .keys) (r .current) (r .number) (r .confirmed + n) (valueAt n chain) (status a);
+      tag = commitTag (r .keys) (r .current) (r .number) (r .confirmed + n) (valueAt (r .confirmed) n chain) (status a);
     } in
     let f : CommitFits k = record {
       count = ok-fits (r .current) o;
       seq = omega arith;
       digest = ap length v ∙ chain-value-length g (r .confirmed + n);
-      tag = commit-tag-length (r .keys) (r .current) (r .number) (r .confirmed + n) (valueAt n chain) (status a);
+      tag = commit-tag-length (r .keys) (r .current) (r .number) (r .confirmed + n) (valueAt (r .confirmed) n chain) (status a);
     } in
     sent-of g sv c (commitBytes k) k (M.commit-read k f) (commit-no-invoke k) (M.commit-yes k f) o x (status-small a) v
-    (ap (λ (x : List ℕ). commitTag x (r .current) (r .number) (r .confirmed + n) (valueAt n chain) (status a)) q) w
+    (ap (λ (x : List ℕ). commitTag x (r .current) (r .number) (r .confirmed + n) (valueAt (r .confirmed) n chain) (status a)) q) w

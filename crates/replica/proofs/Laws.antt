@@ -1,16 +1,16 @@
 -- Laws of stops and of check 8. Assumes nothing.
-use Prim.Native.Nat.{ℕ, _+_, _*_, _<_, _≤_}
+use Prim.Native.Nat.{ℕ, _+_, _<_, _≤_}
 use mathlib.Core.Path.{_≡_, refl}
 use mathlib.Core.List.{[], _∷_}
 use mathlib.Core.Bool.{true, false, _&&_, _||_, and-false, or-true}
 use lib.Dec.{leb, eqb}
-use lib.ListN.{length, drop}
+use lib.ListN.{length}
 use native.Mathlib.Omega.{arith}
 use borrow.Author.Tests.{leb-true, le-leb, lt-leb}
-use Rattle.slices.specs.Bytes.{all, isZero}
 use Rattle.checks.proofs.Laws.{and-yes, cond-cases, every-yes}
 use Rattle.operation.specs.Operation.{opOk}
 use Rattle.replica.specs.Outcome.{isHalt, isStop}
+use Rattle.replica.specs.Places.{statusesOk, unusedStatuses, unusedValues}
 use Rattle.replica.specs.Replica.{noCurrent, numbersOk, arraysOk, inRange, After, refuse, haltedAt, halt, stop}
 use Rattle.replica.specs.declared.Replica.{Replica}
 
@@ -35,9 +35,9 @@ pub record Ranged (r : Replica) : Type 0 where
   pub last : r .confirmed + r .held ≤ 1000000
   pub mark : (eqb (r .halt) 0 || isHalt (r .halt)) ≡ true
   pub current : (noCurrent (r .current) || opOk (r .current)) ≡ true
-  pub statuses : all (λ x. leb x 2) (r .statuses) ≡ true
-  pub unused : all isZero (drop (r .held) (r .statuses)) ≡ true
-  pub rest : all isZero (drop ((r .held + 1) * 32) (r .chain)) ≡ true
+  pub statuses : statusesOk (r .statuses) ≡ true
+  pub unused : unusedStatuses (r .confirmed) (r .held) (r .statuses) ≡ true
+  pub rest : unusedValues (r .confirmed) (r .held) (r .chain) ≡ true
 
 pub ranged : (r : Replica) → inRange r ≡ true → Ranged r
 unfolding inRange numbersOk arraysOk
@@ -58,7 +58,7 @@ ranged r e =
     in
     let a =
     every-yes true
-    (all (λ x. leb x 2) (r .statuses) ∷ all isZero (drop (r .held) (r .statuses)) ∷ all isZero (drop ((r .held + 1) * 32) (r .chain)) ∷ [])
+    (statusesOk (r .statuses) ∷ unusedStatuses (r .confirmed) (r .held) (r .statuses) ∷ unusedValues (r .confirmed) (r .held) (r .chain) ∷ [])
     (y .1 .1 .0)
     .1
     in

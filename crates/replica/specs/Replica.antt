@@ -1,15 +1,16 @@
--- The client's state (document 01: the van's book): fresh, in range (check 8), refused, halted; and checks in order.
-use Prim.Native.Nat.{ℕ, zero, suc, _+_, _*_}
+-- The client's state (document 01: the van's book): fresh, in range (check 8), refused, halted; and checks in order. Its places: Places.antt.
+use Prim.Native.Nat.{ℕ, _+_}
 use mathlib.Core.List.{List, [], _∷_, _++_}
 use mathlib.Core.Bool.{Bool, true, cond, _&&_, _||_}
 use lib.ListN.{length, drop, replicate}
 use lib.Dec.{leb, eqb}
-use Rattle.slices.specs.Bytes.{all, isZero}
 use Rattle.checks.specs.Checks.{every}
 use Rattle.operation.specs.declared.Operation.{Operation}
-use Rattle.operation.specs.Operation.{opOk, noOp}
+use Rattle.operation.specs.Operation.{maxCount, maxPending, opOk, noOp, zeroCells}
+use Rattle.message.specs.Layout.{clientCount, maxSeq, keysLength}
 use Rattle.replica.specs.declared.Replica.{Replica}
 use Rattle.replica.specs.declared.Stepped.{Stepped}
+use Rattle.replica.specs.Places.{noValues, noStatuses, statusesOk, unusedStatuses, unusedValues}
 use Rattle.replica.specs.Outcome.{Told, refused, halted, told, isHalt}
 
 -- ---- the state
@@ -23,15 +24,15 @@ freshReplica n keys =
       current = noOp;
       confirmed = 0;
       held = 0;
-      chain = replicate 1056 0;
-      statuses = replicate 32 0;
-      cells = replicate 16 0;
+      chain = noValues;
+      statuses = noStatuses;
+      cells = zeroCells;
       halt = 0;
     }
 
 -- "an all-zero book"
 abbrev pub zeroReplica : Replica
-zeroReplica = freshReplica 0 (replicate 256 0)
+zeroReplica = freshReplica 0 (replicate keysLength 0)
 
 -- ---- "fields in range? 8"
 -- no current operation: "no entry in hand"
@@ -43,21 +44,21 @@ unfoldable pub numbersOk : Replica → Bool
 numbersOk r =
     every true
     (leb 1 (r .number)
-    ∷ leb (r .number) 8
-    ∷ leb (r .count) 1000000
-    ∷ leb (r .confirmed) 1000000
-    ∷ leb (r .held) 32
-    ∷ leb (r .confirmed + r .held) 1000000
+    ∷ leb (r .number) clientCount
+    ∷ leb (r .count) maxCount
+    ∷ leb (r .confirmed) maxSeq
+    ∷ leb (r .held) maxPending
+    ∷ leb (r .confirmed + r .held) maxSeq
     ∷ (eqb (r .halt) 0 || isHalt (r .halt))
     ∷ [])
 
--- "statuses 1, 0 or none" (stored as 1, 2 and 0); "unused slots zero": statuses past the places held, chain values past the last held
+-- "statuses 1, 0 or none"; "unused slots zero"
 unfoldable pub arraysOk : Replica → Bool
 arraysOk r =
     every true
-    (all (λ x. leb x 2) (r .statuses)
-    ∷ all isZero (drop (r .held) (r .statuses))
-    ∷ all isZero (drop ((r .held + 1) * 32) (r .chain))
+    (statusesOk (r .statuses)
+    ∷ unusedStatuses (r .confirmed) (r .held) (r .statuses)
+    ∷ unusedValues (r .confirmed) (r .held) (r .chain)
     ∷ [])
 
 -- all of it, with "stored entries allowed"

@@ -1,12 +1,19 @@
-// The client's state, the outcomes of its calls, check 8 and checks in order. Definitions: specs/Outcome.antt, specs/Replica.antt.
+// The client's state, its places, the outcomes of its calls, check 8 and checks in order. Definitions: specs/Outcome.antt,
+// specs/Places.antt, specs/Replica.antt.
 ghost use mathlib.Core.Path.{_≡_};
 ghost use Prim.Native.Nat.{_≤_};
 ghost use mathlib.Core.Bool.{true};
 ghost use Rattle.checks.specs.Checks.{firstNo};
 ghost use Rattle.replica.specs.Outcome.{refusalNo, haltNo, isHalt, isStop};
+ghost use Rattle.operation.specs.Operation.{maxPending};
+ghost use Rattle.replica.specs.Places.{valueAt};
 ghost use Rattle.replica.specs.Replica.{freshReplica, noCurrent, numbersOk, arraysOk, inRange, readyChecks, afterOf, refuse, halt, stop};
+use operation::Cells;
 use operation::Operation;
 use operation::Response;
+
+// The bytes of a chain: 33 values.
+pub const CHAIN_LENGTH: usize = 1056;
 
 // A client's state (document 01: a van's book). `confirmed` is the last confirmed sequence number (c), `held` how many
 // sequence numbers past it have a chain value. `chain` has 33 values of 32 bytes: that at `confirmed`, then those held.
@@ -14,14 +21,14 @@ use operation::Response;
 #[repr(C)]
 pub struct Replica {
     pub number: u8,
-    pub keys: [u8; 256],
+    pub keys: [u8; message::KEYS_LENGTH],
     pub count: u32,
     pub current: Operation,
     pub confirmed: u32,
     pub held: u32,
-    pub chain: [u8; 1056],
-    pub statuses: [u8; 32],
-    pub cells: [u8; 16],
+    pub chain: [u8; CHAIN_LENGTH],
+    pub statuses: [u8; operation::MAX_PENDING],
+    pub cells: Cells,
     pub halt: u8,
 }
 
@@ -68,6 +75,14 @@ pub struct Stepped {
     pub outcome: Outcome,
 }
 
+// The chain value at place `c` + `k`, where `c` is the last confirmed one.
+pub fn value_at(c: u32, k: usize, chain: [u8; CHAIN_LENGTH]) -> [u8; message::DIGEST_LENGTH]
+    requires { ⌜ k ≤ maxPending ⌝ }
+    ensures { λ r. ⌜ r ≡ valueAt c k chain ⌝ }
+{
+    slices::part(&chain, k * message::DIGEST_LENGTH)
+}
+
 // Whether there is no current operation.
 pub fn no_current(e: Operation) -> bool
     ensures { λ r. ⌜ r ≡ noCurrent e ⌝ }
@@ -80,11 +95,11 @@ fn numbers_ok(r: Replica) -> bool
 {
     let last = r.confirmed as u64 + r.held as u64;
     (1 <= r.number)
-        & (r.number <= 8)
-        & (r.count <= 1000000)
-        & (r.confirmed <= 1000000)
-        & (r.held <= 32)
-        & (last <= 1000000)
+        & (r.number <= message::CLIENTS)
+        & (r.count <= operation::MAX_COUNT)
+        & (r.confirmed <= message::MAX_SEQ)
+        & (r.held as usize <= operation::MAX_PENDING)
+        & (last <= message::MAX_SEQ as u64)
         & ((r.halt == 0) | is_halt(r.halt))
 }
 
@@ -96,7 +111,7 @@ fn arrays_ok(r: Replica) -> bool
     let held = r.held as usize;
     let s = slices::each_most(&statuses, 2);
     let t = slices::zero_from(&statuses, held);
-    let u = slices::zero_from(&chain, (held + 1) * 32);
+    let u = slices::zero_from(&chain, (held + 1) * message::DIGEST_LENGTH);
     s & t & u
 }
 
@@ -109,25 +124,20 @@ pub fn in_range(r: Replica) -> bool
 }
 
 // A fresh state.
-pub fn fresh(number: u8, keys: [u8; 256]) -> Replica
+pub fn fresh(number: u8, keys: [u8; message::KEYS_LENGTH]) -> Replica
     ensures { λ r. ⌜ r ≡ freshReplica number keys ⌝ }
 {
+    let current = operation::no_op();
     Replica {
         number,
         keys,
         count: 0,
-        current: Operation {
-            count: 0,
-            kind: 0,
-            cell: 0,
-            amount: 0,
-            last: 0,
-        },
+        current,
         confirmed: 0,
         held: 0,
-        chain: [0u8; 1056],
-        statuses: [0u8; 32],
-        cells: [0u8; 16],
+        chain: [0u8; CHAIN_LENGTH],
+        statuses: [0u8; operation::MAX_PENDING],
+        cells: [0u8; operation::CELL_COUNT],
         halt: 0,
     }
 }

@@ -19,7 +19,7 @@ use Rattle.message.specs.declared.Item.{Item}
 use Rattle.message.specs.declared.Commit.{Commit}
 use Rattle.message.specs.Readers.{ItemFits, CommitFits, ItemsFit, none, more, noItem}
 use Rattle.message.specs.Message.{invokeString, commitString, chainString, itemBytes, itemsBytes, commitFields, invokeBytes, replyBytes, commitBytes, broadcastBytes, marked, isInvoke, isReply, isCommit, isBroadcast, itemAt, commitOf, replyCount, replyItem, replyItems}
-use Rattle.message.proofs.Laws.{items-join, items-more, items-length, invoke-bytes-length, commit-bytes-length, broadcast-bytes-length, reply-bytes-length, commit-tagged, invoke-length, commit-length, broadcast-length, reply-length, invoke-mark, commit-mark, broadcast-mark, reply-mark}
+use Rattle.message.proofs.Laws.{items-join, items-more, items-length, invoke-bytes-length, commit-bytes-length, broadcast-bytes-length, reply-bytes-length, commit-tagged, invoke-item, commit-marked, fields-are, invoke-length, commit-length, broadcast-length, reply-length, invoke-mark, commit-mark, broadcast-mark, reply-mark}
 
 -- ---- what is written is read
 pub item-skip : (xs s : List ℕ) (i : ℕ) → itemAt (xs ++ s) (length xs + i) ≡ itemAt s i
@@ -37,15 +37,19 @@ item-read xs ys i f =
     ∙ item-skip xs (itemBytes i ++ ys) 0
     ∙ item-front i ys f
 
-fields-read : (a b : ℕ) (k : Commit) → CommitFits k → commitOf (a ∷ b ∷ commitFields k) ≡ k
-unfolding commitOf commitFields opBytes bigEndian wordAt
-fields-read a b k f =
+parts-read : (a b : ℕ) (k : Commit) → CommitFits k
+    → commitOf (a ∷ b ∷ opBytes (k .op) ++ (k .author ∷ bigEndian 4 (k .seq)) ++ k .digest ++ (k .status ∷ k .tag)) ≡ k
+unfolding commitOf opBytes bigEndian wordAt
+parts-read a b k f =
     let t : List ℕ = k .digest ++ (k .status ∷ k .tag) in
     let d : take 32 t ≡ k .digest = take-at (k .digest) (k .status ∷ k .tag) 32 (f .digest) in
     let s : getD t 32 0 ≡ k .status = getD-at (k .digest) (k .status) (k .tag) 0 32 (f .digest) in
     let g : drop 33 t ≡ k .tag = sym (drop-drop 1 32 t) ∙ ap (drop 1) (drop-at (k .digest) (k .status ∷ k .tag) 32 (f .digest)) in
     let r : take 32 (drop 33 t) ≡ k .tag = ap (take 32) g ∙ take-all 32 (k .tag) (let l = f .tag in omega arith) in
     λ j. record { op = op-read (a ∷ b ∷ []) (k .author ∷ bigEndian 4 (k .seq) ++ t) (k .op) (f .count) j; author = k .author; seq = word-back (k .seq) (f .seq) j; digest = d j; status = s j; tag = r j }
+
+fields-read : (a b : ℕ) (k : Commit) → CommitFits k → commitOf (a ∷ b ∷ commitFields k) ≡ k
+fields-read a b k f = ap (λ (s : List ℕ). commitOf (a ∷ b ∷ s)) (fields-are k) ∙ parts-read a b k f
 
 mark-yes : (a b : ℕ) (s : List ℕ) → marked a b (a ∷ b ∷ s) ≡ true
 unfolding marked
@@ -55,20 +59,18 @@ is-yes : (a b n : ℕ) (s : List ℕ) → length (a ∷ b ∷ s) ≡ n → (mark
 is-yes a b n s h = rw (mark-yes a b s, eq-eqb _ _ h)
 
 pub invoke-yes : (i : Item) → ItemFits i → isInvoke (invokeBytes i) ≡ true
-unfolding isInvoke invokeBytes
-invoke-yes i f = is-yes 73 78 43 (itemBytes i) (invoke-bytes-length i (f .tag))
+unfolding isInvoke
+invoke-yes i f = rw (invoke-item i) (is-yes 73 78 43 (itemBytes i) (ap length (sym (invoke-item i)) ∙ invoke-bytes-length i (f .tag)))
 
 pub invoke-read : (i : Item) → ItemFits i → itemAt (invokeBytes i) 2 ≡ i
-unfolding invokeBytes
-invoke-read i f = ap (λ (s : List ℕ). itemAt (73 ∷ 78 ∷ s) 2) (sym (append-nil (itemBytes i))) ∙ item-read (73 ∷ 78 ∷ []) [] i f
+invoke-read i f = ap (λ (s : List ℕ). itemAt s 2) (invoke-item i) ∙ ap (λ (s : List ℕ). itemAt (73 ∷ 78 ∷ s) 2) (sym (append-nil (itemBytes i))) ∙ item-read (73 ∷ 78 ∷ []) [] i f
 
 pub commit-yes : (k : Commit) → CommitFits k → isCommit (commitBytes k) ≡ true
-unfolding isCommit commitBytes
-commit-yes k f = is-yes 67 79 80 (commitFields k) (commit-bytes-length k (f .digest) (f .tag))
+unfolding isCommit
+commit-yes k f = rw (commit-marked k) (is-yes 67 79 80 (commitFields k) (ap length (sym (commit-marked k)) ∙ commit-bytes-length k (f .digest) (f .tag)))
 
 pub commit-read : (k : Commit) → CommitFits k → commitOf (commitBytes k) ≡ k
-unfolding commitBytes
-commit-read k f = fields-read 67 79 k f
+commit-read k f = ap commitOf (commit-marked k) ∙ fields-read 67 79 k f
 
 pub broadcast-yes : (k : Commit) → CommitFits k → isBroadcast (broadcastBytes k) ≡ true
 unfolding isBroadcast broadcastBytes
@@ -135,10 +137,14 @@ item-write m i b h =
     let n : i + 9 ≡ i + 8 + 1 = omega arith in
     rw (op-write m i b (omega arith), n, one-more m (i + 8) 32 (omega arith)) (join m i 8 33)
 
-fields-write : (m : List ℕ) → ((j : ℕ) → getD m j 0 < 256) → length m ≡ 80 → commitFields (commitOf m) ≡ take 78 (drop 2 m)
-unfolding commitFields commitOf
-fields-write m b h =
+parts-write : (m : List ℕ) → ((j : ℕ) → getD m j 0 < 256) → length m ≡ 80
+    → opBytes (commitOf m .op) ++ (commitOf m .author ∷ bigEndian 4 (commitOf m .seq)) ++ commitOf m .digest ++ (commitOf m .status ∷ commitOf m .tag) ≡ take 78 (drop 2 m)
+unfolding commitOf
+parts-write m b h =
     rw (op-write m 2 b (omega arith), word-write m 11 b (omega arith), one-more m 10 4 (omega arith), one-more m 47 32 (omega arith), join m 2 8 5, join m 2 13 32) (join m 2 45 33)
+
+fields-write : (m : List ℕ) → ((j : ℕ) → getD m j 0 < 256) → length m ≡ 80 → commitFields (commitOf m) ≡ take 78 (drop 2 m)
+fields-write m b h = fields-are (commitOf m) ∙ parts-write m b h
 
 marked-split : (a b : ℕ) (m : List ℕ) → marked a b m ≡ true → m ≡ a ∷ b ∷ drop 2 m
 unfolding marked
@@ -153,16 +159,14 @@ whole : (m : List ℕ) (n : ℕ) → length m ≡ n + 2 → take n (drop 2 m) �
 whole m n h = take-all n (drop 2 m) (simp length-drop (omega arith))
 
 pub invoke-write : (m : List ℕ) → ((j : ℕ) → getD m j 0 < 256) → isInvoke m ≡ true → invokeBytes (itemAt m 2) ≡ m
-unfolding invokeBytes
 invoke-write m b e =
     let h : length m ≡ 43 = invoke-length m e in
-    rw (item-write m 2 b (omega arith), whole m 41 h) (sym (marked-split 73 78 m (invoke-mark m e)))
+    rw (invoke-item (itemAt m 2), item-write m 2 b (omega arith), whole m 41 h) (sym (marked-split 73 78 m (invoke-mark m e)))
 
 pub commit-write : (m : List ℕ) → ((j : ℕ) → getD m j 0 < 256) → isCommit m ≡ true → commitBytes (commitOf m) ≡ m
-unfolding commitBytes
 commit-write m b e =
     let h : length m ≡ 80 = commit-length m e in
-    rw (fields-write m b h, whole m 78 h) (sym (marked-split 67 79 m (commit-mark m e)))
+    rw (commit-marked (commitOf m), fields-write m b h, whole m 78 h) (sym (marked-split 67 79 m (commit-mark m e)))
 
 pub broadcast-write : (m : List ℕ) → ((j : ℕ) → getD m j 0 < 256) → isBroadcast m ≡ true → broadcastBytes (commitOf m) ≡ m
 unfolding broadcastBytes

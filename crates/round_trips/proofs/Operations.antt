@@ -7,7 +7,7 @@ use native.Mathlib.Nat.{add-zero, add-assoc, div-one, div-div-eq-div-mul, div-ad
 use native.Mathlib.Numerals.{add-one, add-two, add-three}
 use native.Mathlib.Omega.{arith}
 use borrow.Author.Tests.{leb-true}
-use lib.Dec.{leb, eqb}
+use lib.Dec.{leb}
 use lib.ListN.{length, getD, take, drop}
 use lib.Seq.{drop-cons, take-add, drop-drop, getD-append-add}
 use Rattle.slices.proofs.Laws.{and-yes}
@@ -99,6 +99,6 @@ pub ok-fits : (e : Operation) → opOk e ≡ true → e .count < 2 ^ 32
 unfolding opOk
 ok-fits e h =
     let n : ℕ = e .count in
-    let c : leb n 1000000 ≡ true = and-yes (leb 1 n) _ (and-yes (leb 1 n && leb n 1000000) _ (and-yes _ (eqb (e .last) 0) h .0) .0) .1 in
+    let c : leb n 1000000 ≡ true = and-yes (leb 1 n) _ (and-yes (leb 1 n && leb n 1000000) _ h .0) .1 in
     let l : n ≤ 1000000 = leb-true n 1000000 c in
     omega arith

@@ -3,14 +3,15 @@ ghost use mathlib.Core.Path.{_≡_};
 ghost use Prim.Native.Nat.{_+_, _-_, _≤_};
 ghost use lib.ListN.{getD};
 ghost use lib.Dec.{eqb};
+ghost use Rattle.message.specs.Layout.{clientCount, maxSeq};
 ghost use Rattle.checks.specs.Checks.{firstNo};
 ghost use Rattle.server.specs.Server.{invokeChecks};
 use message::Item;
 use server::Server;
 
 // A client's last placed count.
-fn last_count(counts: [u32; 8], author: u8) -> u32
-    requires { ⌜ (1 ≤ author) × (author ≤ 8) ⌝ }
+fn last_count(counts: [u32; message::CLIENTS as usize], author: u8) -> u32
+    requires { ⌜ (1 ≤ author) × (author ≤ clientCount) ⌝ }
     ensures { λ r. ⌜ r ≡ getD counts (author - 1) 0 ⌝ }
 {
     let at = (author - 1) as usize;
@@ -26,7 +27,7 @@ fn is_next(count: u32, last: u32) -> bool
 
 // The checks, in their order.
 pub fn invoke_check(s: Server, i: Item, room: usize) -> u8
-    requires { ⌜ (s .passed ≤ s .placed) × (s .placed ≤ 1000000) × (1 ≤ i .author) × (i .author ≤ 8) ⌝ }
+    requires { ⌜ (s .passed ≤ s .placed) × (s .placed ≤ maxSeq) × (1 ≤ i .author) × (i .author ≤ clientCount) ⌝ }
     ensures { λ q. ⌜ q ≡ firstNo 0 (invokeChecks s i room) ⌝ }
 {
     let counts = s.counts;
@@ -36,7 +37,11 @@ pub fn invoke_check(s: Server, i: Item, room: usize) -> u8
     let next = is_next(e.count, last);
     let waiting = (placed - s.passed) as usize;
     let q = checks::also(0, next, 32);
-    let q = checks::also(q, waiting < 32, 33);
-    let q = checks::also(q, placed < 1000000, 34);
-    checks::also(q, 3 + (waiting + 1) * 41 <= room, 7)
+    let q = checks::also(q, waiting < operation::MAX_PENDING, 33);
+    let q = checks::also(q, placed < message::MAX_SEQ, 34);
+    checks::also(
+        q,
+        message::REPLY_HEAD + (waiting + 1) * message::ITEM_LENGTH <= room,
+        7,
+    )
 }

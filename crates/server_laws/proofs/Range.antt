@@ -4,7 +4,7 @@ use mathlib.Core.Path.{_≡_, refl, ap, _∙_}
 use mathlib.Core.Logic.{⊎-elim}
 use mathlib.Core.List.{List, [], _∷_}
 use mathlib.Core.Bool.{Bool, true, false, not, _&&_, or-true}
-use lib.Dec.{leb, eqb}
+use lib.Dec.{leb}
 use lib.ListN.{take, drop}
 use native.Mathlib.Omega.{arith}
 use native.Mathlib.Nat.{eq-or-lt-of-le, le-of-suc-le-suc}
@@ -165,4 +165,4 @@ pub op-count : (e : Operation) → opOk e ≡ true → leb (e .count) 1000000 �
 unfolding opOk
 op-count e h =
     let n : ℕ = e .count in
-    and-yes (leb 1 n) _ (and-yes (leb 1 n && leb n 1000000) _ (and-yes _ (eqb (e .last) 0) h .0) .0) .1
+    and-yes (leb 1 n) _ (and-yes (leb 1 n && leb n 1000000) _ h .0) .1

@@ -1,323 +1,255 @@
-// Runs the calls that standard input lists on two server states, and prints a line for each: tests/make_server_data.py has
-// the form of both. Nothing is claimed but that it is safe and ends; what it prints is held to the file stdout.
+// Runs the calls that standard input lists on two server states, and prints a line for each: tests/server_run.py has the
+// form of both. Nothing is claimed but that it is safe and ends; what it prints is held to the file stdout.
 use libc::STDIN_FILENO;
-use libc::STDOUT_FILENO;
 use server::Served;
 use server::Server;
 use server::ServerEvent;
 use server::ServerOutcome;
-ghost use Prim.Native.Nat.{_≤_};
+ghost use Prim.Native.Nat.{_+_, _≤_};
 ghost use mathlib.Core.Path.{_≡_};
 ghost use lib.ListN.{length};
-ghost use Rattle.io.specs.Counts.{Counts};
 
-// A record's head. `whole` says that all of it was read.
-struct Head {
-    command: u8,
-    from: u8,
-    to: u8,
-    a: u8,
-    b: usize,
-    length: usize,
-    whole: bool,
-}
-
-// The two states.
-struct Slots {
-    s0: Server,
-    s1: Server,
-}
-
-fn least(a: usize, b: usize) -> usize
-    ensures { λ r. ⌜ r ≤ b ⌝ }
+// The place of a state: that of the second one for a number above 0.
+fn slot(line: &[u8], k: usize) -> usize
+    ensures { λ r. ⌜ r + 3432 ≤ 6864 ⌝ }
 {
-    if a < b { a } else { b }
-}
-
-fn pair(high: u8, low: u8) -> usize {
-    (high as usize) * 256 + low as usize
-}
-
-fn read_head() -> Head {
-    let mut h = [0u8; 8];
-    let n = io::read_full(STDIN_FILENO, &mut h);
-    Head {
-        command: h[0],
-        from: h[1],
-        to: h[2],
-        a: h[3],
-        b: pair(h[4], h[5]),
-        length: pair(h[6], h[7]),
-        whole: n == 8,
-    }
+    call_lines::number_at(line, k, 1) as usize * 3432
 }
 
 // Printing
 
-fn put(s: &[u8]) {
-    io::write_all(STDOUT_FILENO, s);
-}
-
-fn wide(x: u8) -> u64 {
-    x as u64
-}
-
-// A space and a number.
-fn put_number(n: u64) {
-    put(b" ");
-    io::print_decimal(STDOUT_FILENO, n);
-}
-
-fn put_hex(s: &[u8]) {
-    let mut i = 0;
-    while i < s.len() {
-        io::print_hex(STDOUT_FILENO, wide(s[i]), 2);
-        i += 1;
+fn put_event(event: ServerEvent) {
+    match event {
+        ServerEvent::Placed(seq) => call_lines::put_one(b"placed", seq as u64),
+        ServerEvent::Broadcast(n) => call_lines::put_one(b"passed", n as u64),
     }
 }
 
 fn put_outcome(outcome: ServerOutcome) {
     match outcome {
-        ServerOutcome::Success(done) => match done {
-            ServerEvent::Placed(seq) => {
-                put(b"placed");
-                put_number(seq as u64);
-            }
-            ServerEvent::Broadcast(n) => {
-                put(b"passed");
-                put_number(n as u64);
-            }
-        },
-        ServerOutcome::Refused(why) => {
-            put(b"no");
-            put_number(wide(server::refusal_number(why)));
-        }
+        ServerOutcome::Success(event) => put_event(event),
+        ServerOutcome::Refused(why) => call_lines::put_one(
+            b"no",
+            server::refusal_number(why) as u64,
+        ),
     }
 }
 
-// A space and the first eight bytes of the digest.
-fn put_digest(bytes: &[u8; 4096]) {
-    let digest = sha256::digest_of(bytes);
-    put(b" ");
-    put_hex(&digest[0..8]);
+// A state in 3,432 bytes: each field in its order, numbers in four bytes
+
+fn counts_of(state: &[u8]) -> [u32; 8]
+    requires { ⌜ 3432 ≤ length (now state) ⌝ }
+{
+    [
+        slices::word_at(state, 8),
+        slices::word_at(state, 12),
+        slices::word_at(state, 16),
+        slices::word_at(state, 20),
+        slices::word_at(state, 24),
+        slices::word_at(state, 28),
+        slices::word_at(state, 32),
+        slices::word_at(state, 36),
+    ]
 }
 
-// A state as bytes
+fn items_of(state: &[u8]) -> [u8; 1312]
+    requires { ⌜ 3432 ≤ length (now state) ⌝ }
+{
+    let mut t = [0u8; 1312];
+    slices::copy_to(&mut t, 0, &state[40..1352]);
+    t
+}
 
-fn copy_part(image: &mut [u8], at: usize, part: &[u8]) {
-    if at <= image.len() {
-        if part.len() <= image.len() - at {
-            slices::copy_to(image, at, part);
-        }
+// The digests or the tags.
+fn parts_of(state: &[u8], at: usize) -> [u8; 1024]
+    requires { ⌜ at + 1024 ≤ length (now state) ⌝ }
+{
+    let mut t = [0u8; 1024];
+    let e = at + 1024;
+    slices::copy_to(&mut t, 0, &state[at..e]);
+    t
+}
+
+fn server_of(state: &[u8]) -> Server
+    requires { ⌜ 3432 ≤ length (now state) ⌝ }
+{
+    let counts = counts_of(state);
+    let items = items_of(state);
+    let statuses = slices::part(state, 1352);
+    let digests = parts_of(state, 1384);
+    let tags = parts_of(state, 2408);
+    Server {
+        placed: slices::word_at(state, 0),
+        passed: slices::word_at(state, 4),
+        counts,
+        items,
+        statuses,
+        digests,
+        tags,
     }
 }
 
-fn copy_word(image: &mut [u8], at: usize, n: u32) {
-    let bytes = slices::word_bytes(n);
-    copy_part(image, at, &bytes);
-}
-
-fn copy_counts(image: &mut [u8], counts: [u32; 8]) {
+fn copy_counts(state: &mut [u8], counts: [u32; 8]) {
     let mut i: usize = 0;
     while i < 8 {
-        copy_word(image, 8 + i * 4, counts[i]);
+        call_lines::copy_word(state, 8 + i * 4, counts[i]);
         i += 1;
     }
 }
 
-fn copy_items(image: &mut [u8], items: [u8; 1312]) {
-    copy_part(image, 40, &items);
+fn copy_items(state: &mut [u8], items: [u8; 1312]) {
+    call_lines::copy_part(state, 40, &items);
 }
 
-fn copy_statuses(image: &mut [u8], statuses: [u8; 32]) {
-    copy_part(image, 1352, &statuses);
+fn copy_statuses(state: &mut [u8], statuses: [u8; 32]) {
+    call_lines::copy_part(state, 1352, &statuses);
 }
 
-fn copy_parts(image: &mut [u8], at: usize, parts: [u8; 1024]) {
-    copy_part(image, at, &parts);
+fn copy_parts(state: &mut [u8], at: usize, parts: [u8; 1024]) {
+    call_lines::copy_part(state, at, &parts);
 }
 
-// The state's fields in 3,432 bytes, with zeros after them.
-fn put_server(s: Server) {
+fn store(state: &mut [u8], s: Server) {
     let counts = s.counts;
     let items = s.items;
     let statuses = s.statuses;
     let digests = s.digests;
     let tags = s.tags;
-    let mut image = io::buffer();
-    copy_word(&mut image, 0, s.placed);
-    copy_word(&mut image, 4, s.passed);
-    copy_counts(&mut image, counts);
-    copy_items(&mut image, items);
-    copy_statuses(&mut image, statuses);
-    copy_parts(&mut image, 1384, digests);
-    copy_parts(&mut image, 2408, tags);
-    put_digest(&image);
+    call_lines::copy_word(state, 0, s.placed);
+    call_lines::copy_word(state, 4, s.passed);
+    copy_counts(state, counts);
+    copy_items(state, items);
+    copy_statuses(state, statuses);
+    copy_parts(state, 1384, digests);
+    copy_parts(state, 2408, tags);
+}
+
+fn empty() -> [u8; 3432]
+    ensures { λ r. ⌜ 3432 ≡ length r ⌝ }
+{
+    [0; 3432]
+}
+
+fn state_at(states: &[u8], at: usize) -> [u8; 3432]
+    requires { ⌜ at + 3432 ≤ length (now states) ⌝ }
+    ensures { λ r. ⌜ 3432 ≡ length r ⌝ }
+{
+    let mut t = [0u8; 3432];
+    let e = at + 3432;
+    slices::copy_to(&mut t, 0, &states[at..e]);
+    t
+}
+
+fn after(states: &mut [u8], to: usize, s: Server) {
+    let mut state = empty();
+    store(&mut state, s);
+    call_lines::keep(states, to, &state);
 }
 
 // Calls
 
-// The out buffer.
+fn receive(s: Server, line: &[u8], out: &mut [u8]) -> Served {
+    let number = call_lines::byte_at(line, 3);
+    let mut m = io::buffer();
+    let n = call_lines::bytes_at(line, 5, &mut m);
+    server_receive::receive(s, number, &m[0..n], out)
+}
+
+// The call with the first bytes lent, as many as the line says.
+fn receive_in(s: Server, line: &[u8], out: &mut [u8]) -> Served
+    requires { ⌜ 4096 ≤ length (now out) ⌝ }
+{
+    let room = call_lines::number_at(line, 4, 4096) as usize;
+    receive(s, line, &mut out[..room])
+}
+
 fn buffer() -> [u8; 4096]
     ensures { λ r. ⌜ 4096 ≡ length r ⌝ }
 {
     [0xaa; 4096]
 }
 
-// The call with the first `room` bytes lent.
-fn receive_in(s: Server, line: u8, m: &[u8], room: usize, out: &mut [u8]) -> Served {
-    let room = least(room, out.len());
-    server_receive::receive(s, line, m, &mut out[..room])
-}
-
-fn receive(s: Server, line: u8, m: &[u8], room: usize) -> Server {
-    let mut out = buffer();
-    let served = receive_in(s, line, m, room, &mut out);
-    let outcome = served.outcome;
-    let after = served.server;
-    put_outcome(outcome);
-    put_server(after);
-    put_digest(&out);
-    after
-}
-
-// The value in a poke's body.
-fn value_of(body: &[u8]) -> u32 {
-    if body.len() < 4 {
-        return 0;
-    }
-    slices::joined(body[0], body[1], body[2], body[3])
-}
-
-fn with_placed(mut s: Server, v: u32) -> Server {
-    s.placed = v;
-    s
-}
-
-fn with_passed(mut s: Server, v: u32) -> Server {
-    s.passed = v;
-    s
-}
-
-fn with_count(mut s: Server, i: usize, v: u32) -> Server {
-    if i < 8 {
-        s.counts[i] = v;
-    }
-    s
-}
-
-fn with_item_byte(mut s: Server, i: usize, v: u8) -> Server {
-    if i < 1312 {
-        s.items[i] = v;
-    }
-    s
-}
-
-fn with_status(mut s: Server, i: usize, v: u8) -> Server {
-    if i < 32 {
-        s.statuses[i] = v;
-    }
-    s
-}
-
-fn with_digest_byte(mut s: Server, i: usize, v: u8) -> Server {
-    if i < 1024 {
-        s.digests[i] = v;
-    }
-    s
-}
-
-fn with_tag_byte(mut s: Server, i: usize, v: u8) -> Server {
-    if i < 1024 {
-        s.tags[i] = v;
-    }
-    s
-}
-
-// The state with one field set, by the field's place in FIELDS.
-fn poke(s: Server, field: u8, i: usize, v: u32) -> Server {
-    let low = (v % 256) as u8;
-    match field {
-        0 => with_placed(s, v),
-        1 => with_passed(s, v),
-        2 => with_count(s, i, v),
-        3 => with_item_byte(s, i, low),
-        4 => with_status(s, i, low),
-        5 => with_digest_byte(s, i, low),
-        _ => with_tag_byte(s, i, low),
-    }
-}
-
-fn act(s: Server, h: Head, body: &[u8]) -> Server {
-    if h.command == b'R' {
-        return receive(s, h.a, body, h.b);
-    }
-    let after = if h.command == b'P' {
-        poke(s, h.a, h.b, value_of(body))
-    } else {
-        server::fresh()
-    };
-    put(b"set");
-    put_server(after);
-    after
-}
-
-// Slots
-
-fn slot(s: Slots, k: u8) -> Server {
-    if k == 0 { s.s0 } else { s.s1 }
-}
-
-fn stored(mut s: Slots, k: u8, v: Server) -> Slots {
-    if k == 0 {
-        s.s0 = v;
-    } else {
-        s.s1 = v;
-    }
-    s
-}
-
-fn record(s: Slots, h: Head, body: &[u8]) -> Slots {
-    if h.command == b'N' {
-        put(body);
-        return s;
-    }
-    let v = slot(s, h.from);
-    let after = act(v, h, body);
-    stored(s, h.to, after)
-}
-
-// Reads a record's body, and answers how many bytes it has.
-fn read_body(length: usize, body: &mut [u8]) -> usize
-    ensures { λ r. ⌜ Counts r (now (body .exit)) ⌝ }
+fn call(states: &mut [u8], line: &[u8])
+    requires { ⌜ 6864 ≤ length (now states) ⌝ }
 {
-    let most = least(length, body.len());
-    io::read_full(STDIN_FILENO, &mut body[..most])
+    let from = slot(line, 1);
+    let to = slot(line, 2);
+    let state = state_at(states, from);
+    let s = server_of(&state);
+    let mut out = buffer();
+    let served = receive_in(s, line, &mut out);
+    let server = served.server;
+    let outcome = served.outcome;
+    put_outcome(outcome);
+    after(states, to, server);
+    call_lines::put_digest(&out);
 }
 
-fn turn(s: Slots, h: Head) -> Slots {
-    let mut body = io::buffer();
-    let n = read_body(h.length, &mut body);
-    let after = record(s, h, &body[..n]);
-    put(b"\n");
-    after
+fn fresh(states: &mut [u8], line: &[u8]) {
+    let to = slot(line, 1);
+    call_lines::put(b"fresh");
+    after(states, to, server::fresh());
 }
 
-fn start() -> Slots {
-    let s = server::fresh();
-    Slots { s0: s, s1: s }
+fn set_bytes(state: &mut [u8], line: &[u8])
+    requires { ⌜ 3432 ≤ length (now state) ⌝ }
+{
+    let at = call_lines::number_at(line, 3, 3431) as usize;
+    call_lines::bytes_at(line, 4, &mut state[at..]);
+}
+
+fn change(states: &mut [u8], line: &[u8])
+    requires { ⌜ 6864 ≤ length (now states) ⌝ }
+{
+    let from = slot(line, 1);
+    let to = slot(line, 2);
+    let mut state = state_at(states, from);
+    set_bytes(&mut state, line);
+    call_lines::put(b"changed");
+    call_lines::keep(states, to, &state);
+}
+
+// A line's first letter says what it asks.
+fn one(states: &mut [u8], line: &[u8])
+    requires { ⌜ 6864 ≤ length (now states) ⌝ }
+{
+    let letter = call_lines::letter(line);
+    if letter == b'#' {
+        call_lines::put(line);
+        return;
+    }
+    if letter == b'f' {
+        fresh(states, line);
+        return;
+    }
+    if letter == b'c' {
+        change(states, line);
+        return;
+    }
+    call(states, line);
+}
+
+fn lines(states: &mut [u8], text: &[u8])
+    requires { ⌜ 6864 ≤ length (now states) ⌝ }
+{
+    let mut at = 0;
+    while at < text.len() {
+        let e = call_lines::end(text, at, 10);
+        one(states, &text[at..e]);
+        call_lines::end_line();
+        at = e + 1;
+    }
+}
+
+fn zeros() -> [u8; 6864]
+    ensures { λ r. ⌜ 6864 ≡ length r ⌝ }
+{
+    [0; 6864]
 }
 
 fn main() {
-    let mut s = start();
-    let mut turns: u32 = 1000000;
-    while turns > 0 {
-        let h = read_head();
-        if !h.whole {
-            return;
-        }
-        let after = turn(s, h);
-        s = after;
-        turns -= 1;
-    }
+    let mut states = zeros();
+    let mut text = call_lines::room();
+    let n = io::read_full(STDIN_FILENO, &mut text);
+    lines(&mut states, &text[..n]);
 }

@@ -8,8 +8,12 @@ use lib.ListN.{length, take, drop, getD, length-append, length-take, length-drop
 use lib.Seq.{take-all, take-at, getD-take, getD-append-add}
 use Rattle.slices.specs.Bytes.{wordAt}
 use Rattle.sha256_core.specs.declared.State.{State}
-use Rattle.sha256.specs.Sha256.{padding, pad, wordsAt, initial, hashFrom, bytesOf, sha256}
-use Rattle.sha256.specs.Inner.{countOf, restFrom}
+use Rattle.sha256_pad.specs.Padding.{padding, pad}
+use Rattle.sha256_pad.specs.Inner.{countOf}
+use Rattle.sha256_block.specs.Block.{wordsAt}
+use Rattle.sha256_bytes.specs.Bytes.{bytesOf}
+use Rattle.sha256.specs.Sha256.{initial, hashFrom, sha256}
+use Rattle.sha256.specs.Inner.{restFrom, afterBlock}
 use Rattle.sha256.proofs.Padding.{count-is}
 
 word-same : (a b : List ℕ) (i k : ℕ) → getD a i 0 ≡ getD b k 0 → getD a (i + 1) 0 ≡ getD b (k + 1) 0
@@ -61,6 +65,11 @@ unfolding sha256 pad restFrom
 digest-is q p m e =
     rw (count-is (p ++ m), length-append p m, e, count-add q (length m), append-assoc p m (padding (64 * q + length m)))
     (ap bytesOf (hash-add initial q (countOf (length m)) p (m ++ padding (64 * q + length m)) e))
+
+-- the digest of one block, then m
+pub digest-from : (p m : List ℕ) {s : State} → length p ≡ 64 → s ≡ afterBlock p → bytesOf (restFrom s 64 m) ≡ sha256 (p ++ m)
+unfolding afterBlock hashFrom
+digest-from p m l e = rw e (sym (digest-is 1 p m l))
 
 -- the whole blocks of m, and then n blocks b that hold its rest with the padding
 module _ (s : State) (before k : ℕ) (m b : List ℕ) where

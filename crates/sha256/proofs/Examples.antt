@@ -3,7 +3,10 @@ use mathlib.Core.Path.{_≡_, refl}
 use mathlib.Core.List.{[], _∷_}
 use Rattle.sha256_core.specs.Round.{kTable, roundOf, roundAt, addState}
 use Rattle.slices.specs.Bytes.{bigEndian, wordAt}
-use Rattle.sha256.specs.Sha256.{padding, pad, wordsAt, blockCount, initial, nextWord, schedule, rounds, compressOf, hashFrom, bytesOf, sha256}
+use Rattle.sha256_pad.specs.Padding.{padding, pad}
+use Rattle.sha256_block.specs.Block.{wordsAt, nextWord, schedule, rounds, compressOf}
+use Rattle.sha256_bytes.specs.Bytes.{bytesOf}
+use Rattle.sha256.specs.Sha256.{blockCount, initial, hashFrom, sha256}
 
 -- "abc"
 pub abc : sha256 (97 ∷ 98 ∷ 99 ∷ []) ≡

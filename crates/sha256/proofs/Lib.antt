@@ -1,4 +1,3 @@
-pub mod Rounds
 pub mod Padding
 pub mod Blocks
 pub mod Examples

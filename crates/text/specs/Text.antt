@@ -1,4 +1,4 @@
--- The place of a byte, the pieces between separators, decimal numbers, and bytes in hexadecimal.
+-- The place of a byte, the pieces between separators, and decimal numbers.
 use Prim.Native.Nat.{ℕ, zero, suc, _+_, _-_, _*_, _/_, _%_, min}
 use mathlib.Core.List.{List, [], _∷_, _++_}
 use mathlib.Core.Bool.{Bool, true, false, cond, _&&_}
@@ -44,22 +44,3 @@ digits (suc k) n = cond (leb n 9) [] (digits k (n / 10)) ++ ((48 + n % 10) ∷ [
 -- the decimal digits of a number (it has at most n + 1)
 unfoldable pub decimalOf : ℕ → List ℕ
 decimalOf n = digits (suc n) n
-
--- the hexadecimal digit, in lower case, of a number below 16
-unfoldable pub hexDigit : ℕ → ℕ
-hexDigit d = cond (leb d 9) (48 + d) (87 + d)
-
--- the number whose hexadecimal digit a byte is: 16 for what is none
-unfoldable pub hexValue : ℕ → ℕ
-hexValue c = cond (leb 48 c && leb c 57) (c - 48) (cond (leb 97 c && leb c 102) (c - 87) 16)
-
--- bytes in hexadecimal, two digits each
-unfoldable pub hexOf : List ℕ → List ℕ
-hexOf [] = []
-hexOf (x ∷ xs) = hexDigit (x / 16) ∷ hexDigit (x % 16) ∷ hexOf xs
-
--- the bytes that pairs of hexadecimal digits spell, up to the first pair that is none
-unfoldable pub bytesOf : List ℕ → List ℕ
-bytesOf [] = []
-bytesOf (c ∷ []) = []
-bytesOf (c ∷ d ∷ s) = cond (leb (hexValue c) 15 && leb (hexValue d) 15) ((hexValue c * 16 + hexValue d) ∷ bytesOf s) []

@@ -1,24 +1,15 @@
--- Laws of outcomes and of the lines. Assumes nothing.
-use Prim.Native.Nat.{ℕ, _+_, _-_}
-use mathlib.Core.Path.{_≡_, refl}
+-- Moves of equal parts are equal. Assumes nothing.
+use mathlib.Core.Path.{_≡_}
 use mathlib.Core.List.{List}
-use mathlib.Core.Bool.{true, _||_}
-use lib.Dec.{leb}
-use lib.ListN.{getD}
-use native.Mathlib.Numerals.{add-one}
-use Rattle.replica.specs.declared.Event.{Event}
-use Rattle.replica.specs.declared.Event.the-variants as D
-use Rattle.replica.specs.Outcome.{eventTold}
-use Rattle.trial_core.specs.Trial.{isSuccess, isFull}
+use Prim.Native.Nat.{ℕ}
+use Rattle.trial_said.specs.Word.{Word}
+use Rattle.replica.specs.declared.Replica.{Replica}
+use Rattle.server.specs.declared.Server.{Server}
+use Rattle.trial_core.specs.declared.Lines.{Lines}
+use Rattle.trial_core.specs.Trial.{Move}
 
-pub done-success : (d : Event) → true ≡ isSuccess (eventTold d)
-done-success D.Opened = refl
-done-success (D.Invoked n) = refl
-done-success (D.Responded p a) = refl
-done-success (D.Aborted p) = refl
-done-success (D.Confirmed p s) = refl
-
--- one more client
-pub full-more : (next : List ℕ) (passed k : ℕ) → isFull next passed (k + 1) ≡ (isFull next passed k || leb (getD next k 0 + 256) passed)
-unfolding isFull
-full-more next passed k = rw (add-one k)
+pub move-same : {r r2 : Replica} {s s2 : Server} {l l2 : Lines} {w w2 : Word} {a a2 b b2 d d2 : List ℕ}
+    → r ≡ r2 → s ≡ s2 → l ≡ l2 → w ≡ w2 → a ≡ a2 → b ≡ b2 → d ≡ d2
+    → _≡_ {A = Move} (record { replica = r; server = s; lines = l; word = w; log = a; replies = b; invokes = d })
+    (record { replica = r2; server = s2; lines = l2; word = w2; log = a2; replies = b2; invokes = d2 })
+move-same er es el ew ea eb ed = rw (er, es, el, ew, ea, eb, ed)

@@ -6,12 +6,14 @@ use mathlib.Core.Bool.{Bool, true, false, cond, not, _&&_, _||_}
 use lib.ListN.{length, getD, set, take, drop, replicate}
 use lib.Dec.{leb, ltb, eqb}
 use Rattle.slices.specs.Bytes.{put}
-use Rattle.trial_text.specs.Line.{Asked, invoke, deliver, other, Word, placed, answer, aside, confirm, empty, nay, halt, bad, full}
+use Rattle.trial_words.specs.Words.{Asked, invoke, deliver, other}
+use Rattle.trial_said.specs.Word.{Word, placed, answer, aside, confirm, empty, nay, halt, bad, full}
 use Rattle.replica.specs.declared.Replica.{Replica}
 use Rattle.replica.specs.Outcome as O
 use Rattle.replica.specs.Outcome.{Told}
 use Rattle.replica.specs.Replica.{Step, over, zeroReplica}
-use Rattle.client_invoke.specs.Invoke.{openStep, invokeStep}
+use Rattle.client_open.specs.Open.{openStep}
+use Rattle.client_invoke.specs.Invoke.{invokeStep}
 use Rattle.client.specs.Receive.{receiveStep}
 use Rattle.server.specs.declared.Server.{Server}
 use Rattle.server.specs.Server as S

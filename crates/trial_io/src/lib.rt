@@ -1,12 +1,10 @@
 // The trial program of document 01: lines from standard input to its end, and a line for each on standard output. What is printed for
-// which line is the contract of `trial_lines::answers`; here is only what reads, prints, and keeps what is not yet a line.
-use libc::STDIN_FILENO;
-use libc::STDOUT_FILENO;
+// which line is the contract of `trial_lines::answers`; here is only the loop that reads, prints, and keeps what is not yet a line.
 use trial_core::Trial;
-use trial_text::Command;
+use trial_words::Command;
 ghost use mathlib.Core.Path.{_≡_};
 ghost use Prim.Native.Nat.{_+_, _-_, _≤_, _<_, _^_};
-ghost use lib.ListN.{length, take, drop};
+ghost use lib.ListN.{length};
 
 // What is carried from line to line: the trial, how many lines there were, and whether the rest of an over-long line is being passed over.
 struct State {
@@ -28,13 +26,6 @@ struct Turned {
     got: usize,
 }
 
-// Prints the first `n` bytes.
-fn print(out: &[u8], n: usize)
-    requires { ⌜ n ≤ length (now out) ⌝ }
-{
-    io::write_all(STDOUT_FILENO, &out[0..n]);
-}
-
 // Answers one command, and prints what it gives.
 fn one(
     state: State,
@@ -49,10 +40,10 @@ fn one(
 {
     let t = state.trial;
     let number = state.number + 1;
-    let q = trial_lines::answer(t, number, command, out, 0, log, replies, invokes);
+    let q = trial_answer::answer(t, number, command, out, 0, log, replies, invokes);
     let trial = q.trial;
     let filled = q.filled;
-    print(out, filled);
+    trial_bytes::print(out, filled);
     State {
         trial,
         number,
@@ -107,7 +98,7 @@ fn whole_lines(
         let after = q.trial;
         let used = q.used;
         let filled = q.filled;
-        print(out, filled);
+        trial_bytes::print(out, filled);
         trial = after;
         number += q.count;
         if used == 0 {
@@ -158,18 +149,6 @@ fn lines(
     }
 }
 
-// Moves the bytes from `from` to `to` to the front.
-fn shift(buf: &mut [u8], from: usize, to: usize)
-    requires { ⌜ (from ≤ to) × (to ≤ length (now buf)) ⌝ }
-    ensures { λ _. ⌜ take (to - from) (now (buf .exit)) ≡ take (to - from) (drop from (now (buf .entry))) ⌝ }
-{
-    let mut i = from;
-    while i < to {
-        buf[i - from] = buf[i];
-        i += 1;
-    }
-}
-
 // After a read that leaves `held` bytes of a line: one that fills the buffer is over-long.
 fn held_on(state: State, held: usize, got: usize, room: usize) -> Turned
     requires { ⌜ (held ≤ room) × (0 < room) ⌝ }
@@ -191,15 +170,6 @@ fn held_on(state: State, held: usize, got: usize, room: usize) -> Turned
     Turned { state, held, got }
 }
 
-// One read, of bytes to stand after the first `held`; 0 at the end of the input, and where it fails.
-fn read(buf: &mut [u8], held: usize) -> usize
-    requires { ⌜ held ≤ length (now buf) ⌝ }
-    ensures { λ r. ⌜ held + r ≤ length (now (buf .entry)) ⌝ }
-{
-    let got = libc::read(STDIN_FILENO, &mut buf[held..]);
-    io::count(got, &buf[held..])
-}
-
 // The whole lines among the first `n` bytes; what is left of them goes to the front.
 fn taken(
     state: State,
@@ -218,7 +188,7 @@ fn taken(
     let q = lines(state, &buf[0..n], out, log, replies, invokes);
     let after = q.state;
     let used = q.used;
-    shift(buf, used, n);
+    trial_bytes::shift(buf, used, n);
     held_on(after, n - used, got, room)
 }
 
@@ -237,7 +207,7 @@ fn turn(
         × (r .got ≤ length (now (buf .entry)))
         × (r .state .number + r .held ≤ state .number + held + r .got) ⌝ }
 {
-    let got = read(buf, held);
+    let got = trial_bytes::read(buf, held);
     taken(state, held + got, got, buf, out, log, replies, invokes)
 }
 
@@ -246,7 +216,7 @@ fn asked(skipping: bool, line: &[u8]) -> Command {
     if skipping {
         return Command::Other;
     }
-    trial_text::parse(line)
+    trial_parse::parse(line)
 }
 
 // The last line, where the input does not end with a line feed.

@@ -19,11 +19,11 @@ use Rattle.progress.specs.HonestRuns.{World, Line, act, runFrom, serveHead, ser
 use Rattle.trial_core.specs.Trial.{Lent, Offering, offer, offerOne, offerTo, hasPlace, invokeBytes}
 use Rattle.trial_core.specs.declared.Lines.{Lines}
 use Rattle.trial_laws.specs.TrialRuns.{offers}
-use Rattle.trial_laws.proofs.Parts.{bool-cases}
-use Rattle.trial_laws.proofs.ServerCalls.{no-place}
-use Rattle.trial_laws.proofs.Reached.{Reached, run-append, reached-run}
-use Rattle.trial_laws.proofs.Shows.{Shows}
-use Rattle.trial_laws.proofs.Offering.{replied, offered}
+use Rattle.trial_ways.proofs.Parts.{bool-cases}
+use Rattle.trial_ways.proofs.ServerCalls.{no-place}
+use Rattle.trial_ways.proofs.Reached.{Reached, run-append, reached-run}
+use Rattle.trial_ways.proofs.Shows.{Shows}
+use Rattle.trial_ways.proofs.Offering.{replied, offered}
 
 -- ---- actions that change nothing
 serve-none : (w : World) (n room : ℕ) → w .up n ≡ [] → act w (H.serve n room) ≡ w

@@ -10,7 +10,7 @@ use borrow.Author.Tests.{eqb-true}
 use Rattle.operation.specs.declared.Operation.{Operation}
 use Rattle.message.specs.declared.Item.{Item}
 use Rattle.message.specs.Message.{isInvoke, isReply, marked, invokeBytes, replyCount}
-use Rattle.message.proofs.Laws.{item-length}
+use Rattle.message.proofs.Laws.{item-length, invoke-item}
 use Rattle.verify.proofs.Laws.{invoke-tag-length}
 use Rattle.replica.specs.declared.Replica.{Replica}
 use Rattle.replica.specs.Outcome as O
@@ -60,8 +60,8 @@ pub record Invoking (r : Replica) (q : Step) : Type 0 where
   pub one : written (q .wrote) ≡ q .wrote ∷ []
 
 invoke-form : (i : Item) → length (i .tag) ≡ 32 → isInvoke (invokeBytes i) ≡ true
-unfolding isInvoke marked invokeBytes
-invoke-form i l = rw (item-length i l)
+unfolding isInvoke marked
+invoke-form i l = rw (invoke-item i, item-length i l)
 
 message-form : (r : Replica) (e : Operation) → isInvoke (invokeMessage r e) ≡ true
 unfolding invokeMessage

@@ -13,10 +13,10 @@ use Rattle.progress.specs.HonestRuns.{World, act, deliverIn, deliverHead, putOn
 use Rattle.progress.proofs.Acting.{update-same, update-other}
 use Rattle.trial_core.specs.Trial.{Lent, withoutBroadcast, broadcastBytes, replyBytes, confirmedMove}
 use Rattle.trial_core.specs.declared.Lines.{Lines}
-use Rattle.trial_laws.proofs.Ways.{Way, way-confirmed}
+use Rattle.trial_ways.proofs.Ways.{Way, way-confirmed}
 use Rattle.trial_laws.proofs.ClientCalls.{Confirming, confirm-step}
-use Rattle.trial_laws.proofs.Reached.{Reached, takes}
-use Rattle.trial_laws.proofs.Shows.{ClientAt, Sizes, Shows, trues, by-client, replica-set, update-idle}
+use Rattle.trial_ways.proofs.Reached.{Reached, takes}
+use Rattle.trial_ways.proofs.Shows.{ClientAt, Sizes, Shows, trues, by-client, replica-set, update-idle}
 use Rattle.trial_laws.proofs.InvokeMove.{Moved}
 
 module _ (rs : List Replica) (l : Lines) (b : Lent) (w : World) (S : Shows rs l b w) (R : Reached w) (i : ℕ) (h : i < 8)

@@ -16,13 +16,13 @@ use Rattle.checks.proofs.Laws.{cond-cases}
 use Rattle.client.specs.Receive.{receiveStep}
 use Rattle.progress.specs.HonestRuns as H
 use Rattle.progress.specs.HonestRuns.{World, Line, Action, act, runFrom, deliverHead, toldHead, toldIn}
-use Rattle.trial_text.specs.Line.{empty}
+use Rattle.trial_said.specs.Word.{empty}
 use Rattle.trial_core.specs.Trial.{Lent, Move, replyFirst, broadcastFirst, replyBytes, broadcastBytes, toldWord, repliedMove, confirmedMove, replyMove, broadcastMove, emptyMove, deliverMove}
 use Rattle.trial_core.specs.declared.Lines.{Lines}
 use Rattle.trial_laws.specs.TrialRuns.{sent, sentBy, deliverActions, deliverWord}
-use Rattle.trial_laws.proofs.Ways.{way-empty}
-use Rattle.trial_laws.proofs.Reached.{Reached}
-use Rattle.trial_laws.proofs.Shows.{Shows}
+use Rattle.trial_ways.proofs.Ways.{way-empty}
+use Rattle.trial_ways.proofs.Reached.{Reached}
+use Rattle.trial_ways.proofs.Shows.{Shows}
 use Rattle.trial_laws.proofs.InvokeMove.{Moved}
 use Rattle.trial_laws.proofs.Replying.{replying, reply-head, replied-move}
 use Rattle.trial_laws.proofs.Confirming.{confirming, broadcast-head, confirmed-move}

@@ -2,7 +2,7 @@
 use Prim.Native.Nat.{ℕ, zero, suc, _+_, _<_, _≤_}
 use mathlib.Core.Path.{_≡_, refl, sym, ap, _∙_}
 use mathlib.Core.Logic.{⊎-elim}
-use mathlib.Core.List.{List}
+use mathlib.Core.List.{List, [], _∷_, _++_}
 use mathlib.Core.Bool.{Bool, true, false, _||_, true≢false}
 use lib.ListN.{getD}
 use lib.Dec.{leb}
@@ -11,14 +11,43 @@ use native.Mathlib.Numerals.{add-one}
 use native.Mathlib.Nat.{eq-or-lt-of-le, le-of-suc-le-suc}
 use borrow.Author.Tests.{leb-true, leb-false, le-leb, lt-leb}
 use Rattle.replica.specs.declared.Replica.{Replica}
-use Rattle.progress.specs.HonestRuns.{World}
+use Rattle.progress.specs.HonestRuns.{World, Line}
 use Rattle.trial_core.specs.Trial as T
 use Rattle.trial_core.specs.Trial.{Lent, replyBytes}
 use Rattle.trial_core.specs.declared.Lines.{Lines}
 use Rattle.trial_laws.specs.TrialRuns.{broadcastsIn, isFull}
-use Rattle.trial_laws.proofs.Parts.{bool-cases}
-use Rattle.trial_laws.proofs.Ways.{way-count}
-use Rattle.trial_laws.proofs.Shows.{Shows}
+use Rattle.trial_ways.proofs.Parts.{bool-cases}
+use Rattle.trial_ways.proofs.Ring.{logFrom}
+use Rattle.trial_ways.proofs.Ways.{Way, none, some, Quiet}
+use Rattle.trial_ways.proofs.Shows.{Shows}
+
+-- ---- how many broadcasts are undelivered
+count-append : (x y : Line) → broadcastsIn (x ++ y) ≡ broadcastsIn x + broadcastsIn y
+unfolding broadcastsIn
+count-append [] y = omega arith
+count-append (m ∷ x) y = let e = count-append x y in omega arith
+
+count-from : (log : List ℕ) (p n q : ℕ) → p + n ≤ q → Quiet log p q → broadcastsIn (logFrom log p n) ≡ n
+unfolding broadcastsIn logFrom
+count-from log p zero q h Q = refl
+count-from log p (suc n) q h Q =
+    let e = count-from log (suc p) n q (omega arith) (λ j g k. Q j (omega arith) k) in
+    rw (Q p (omega arith) (omega arith)) (omega arith)
+
+module _ (log : List ℕ) (passed next before len : ℕ) (reply : List ℕ) (d : Line) where
+  way-count : Quiet log next passed → Way log passed next before len reply d → next + broadcastsIn d ≡ passed
+  unfolding broadcastsIn
+  way-count Q (none a z e q) =
+      let u : broadcastsIn d ≡ broadcastsIn (logFrom log next a) = ap broadcastsIn q in
+      let v = count-from log next a passed (omega arith) Q in
+      omega arith
+  way-count Q (some a c x y i e f q) =
+      let u : broadcastsIn d ≡ broadcastsIn (logFrom log next a ++ (reply ∷ logFrom log before c)) = ap broadcastsIn q in
+      let v = count-append (logFrom log next a) (reply ∷ logFrom log before c) in
+      let w = count-from log next a passed (omega arith) Q in
+      let k = count-from log before c passed (omega arith) (λ j g h. Q j (omega arith) h) in
+      let r : broadcastsIn (reply ∷ logFrom log before c) ≡ 0 + broadcastsIn (logFrom log before c) = rw i in
+      omega arith
 
 test-same : (next c passed : ℕ) → next + c ≡ passed → leb 256 c ≡ leb (next + 256) passed
 test-same next c passed e =

@@ -21,9 +21,9 @@ use Rattle.trial_core.specs.Trial.{Lent, Move, Offering, withReply, withRefused
 use Rattle.trial_core.specs.declared.Lines.{Lines}
 use Rattle.trial_laws.specs.TrialRuns.{isFull, sent, headWord, invokedWord}
 use Rattle.trial_laws.proofs.ClientCalls.{Invoking, Stopping, invoke-step}
-use Rattle.trial_laws.proofs.Reached.{Reached, reached-act}
-use Rattle.trial_laws.proofs.Shows.{Shows}
-use Rattle.trial_laws.proofs.Offering.{replied, offered}
+use Rattle.trial_ways.proofs.Reached.{Reached, reached-act}
+use Rattle.trial_ways.proofs.Shows.{Shows}
+use Rattle.trial_ways.proofs.Offering.{replied, offered}
 use Rattle.trial_laws.proofs.Invoking.{asked, calledWorld, stopped-shows, invoked-shows, up-own, invoke-own}
 
 -- a move of client i + 1 shows the world v

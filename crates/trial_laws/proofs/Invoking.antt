@@ -17,10 +17,10 @@ use Rattle.progress.proofs.OneWay.{replies, invokes, invoke-counted, invoke-43}
 use Rattle.trial_core.specs.Trial.{Lent, withRefused, invokeBytes}
 use Rattle.trial_core.specs.declared.Lines.{Lines}
 use Rattle.trial_laws.specs.TrialRuns.{isFull}
-use Rattle.trial_laws.proofs.Parts.{bool-cases, part-put, part-other}
+use Rattle.trial_ways.proofs.Parts.{bool-cases, part-put, part-other}
 use Rattle.trial_laws.proofs.ClientCalls.{Invoking, Stopping}
-use Rattle.trial_laws.proofs.Reached.{Reached, none-current, server-ranged}
-use Rattle.trial_laws.proofs.Shows.{ClientAt, Sizes, Shows, trues, trues-few, by-client, replica-set, update-idle}
+use Rattle.trial_ways.proofs.Reached.{Reached, none-current, server-ranged}
+use Rattle.trial_ways.proofs.Shows.{ClientAt, Sizes, Shows, trues, trues-few, by-client, replica-set, update-idle}
 use Rattle.trial_laws.proofs.Full.{behind}
 
 -- the bytes lent, with other invokes

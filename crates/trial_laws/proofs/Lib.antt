@@ -1,16 +1,8 @@
-pub mod Parts
-pub mod Ring
-pub mod Ways
-pub mod ServerCalls
 pub mod ClientCalls
-pub mod Reached
-pub mod Shows
-pub mod Offering
 pub mod Again
 pub mod Full
 pub mod Invoking
 pub mod InvokeMove
-pub mod Passing
 pub mod Replied
 pub mod Replying
 pub mod Confirming

@@ -13,10 +13,11 @@ use Rattle.server.specs.Server.{ServerTold, serverStep}
 use Rattle.progress.specs.HonestRuns as H
 use Rattle.progress.specs.HonestRuns.{World, Line, Action, act, runFrom, start, toldHead, toldIn, toldFrom, NoHalt}
 use Rattle.progress.proofs.NoHalt.{no-halt}
-use Rattle.trial_text.specs.Line.{Asked, invoke, deliver, other, Word, placed, answer, aside, confirm, empty, nay, halt, bad, full}
+use Rattle.trial_words.specs.Words.{Asked, invoke, deliver, other}
+use Rattle.trial_said.specs.Word.{Word, placed, answer, aside, confirm, empty, nay, halt, bad, full}
 use Rattle.trial_core.specs.Trial.{trialKeys, isSuccess, isClient, toldWord, servedWord}
 use Rattle.trial_laws.specs.TrialRuns.{isFull, headWord, invokedWord, invokeWord, deliverWord, lineWord, lineVan, offers, offered, afterLine, trialWords, TrialHonest, NeverHalt}
-use Rattle.trial_laws.proofs.Reached.{Reached, reached-start, reached-run}
+use Rattle.trial_ways.proofs.Reached.{Reached, reached-start, reached-run}
 use Rattle.trial_laws.proofs.Trials.{reached-line, trial-honest}
 
 -- a word that is no halt

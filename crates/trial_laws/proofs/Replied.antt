@@ -15,13 +15,13 @@ use Rattle.progress.proofs.Acting.{update-same, update-other}
 use Rattle.progress.proofs.OneWay.{replies}
 use Rattle.trial_core.specs.Trial.{Lent, withoutReply, replyBytes, invokeBytes, logged}
 use Rattle.trial_core.specs.declared.Lines.{Lines}
-use Rattle.trial_laws.proofs.Ring.{logFrom, logged-length}
-use Rattle.trial_laws.proofs.Ways.{Way, Quiet, end-quiet}
-use Rattle.trial_laws.proofs.ServerCalls.{Passing}
+use Rattle.trial_ways.proofs.Ring.{logFrom, logged-length}
+use Rattle.trial_ways.proofs.Ways.{Way, Quiet, end-quiet}
+use Rattle.trial_ways.proofs.ServerCalls.{Passing}
 use Rattle.trial_laws.proofs.ClientCalls.{Replying}
-use Rattle.trial_laws.proofs.Reached.{Reached, none-current, server-ranged}
-use Rattle.trial_laws.proofs.Shows.{ClientAt, Sizes, Shows, trues, by-client, replica-set}
-use Rattle.trial_laws.proofs.Passing.{new-line, passed-client}
+use Rattle.trial_ways.proofs.Reached.{Reached, none-current, server-ranged}
+use Rattle.trial_ways.proofs.Shows.{ClientAt, Sizes, Shows, trues, by-client, replica-set}
+use Rattle.trial_ways.proofs.Passing.{new-line, passed-client}
 
 -- the bytes lent, with another log
 abbrev pub relogged : Lent → List ℕ → Lent

@@ -19,12 +19,12 @@ use Rattle.progress.proofs.Acting.{update-same}
 use Rattle.progress.proofs.OneWay.{replies, invokes, invoke-counted}
 use Rattle.trial_core.specs.Trial.{Lent, broadcastCount, logged, withoutReply, replyBytes, invokeBytes, repliedMove}
 use Rattle.trial_core.specs.declared.Lines.{Lines}
-use Rattle.trial_laws.proofs.Parts.{bool-cases}
-use Rattle.trial_laws.proofs.Ways.{Way, way-busy, way-taken}
-use Rattle.trial_laws.proofs.ServerCalls.{Passing, commit-call}
+use Rattle.trial_ways.proofs.Parts.{bool-cases}
+use Rattle.trial_ways.proofs.Ways.{Way, way-busy, way-taken}
+use Rattle.trial_ways.proofs.ServerCalls.{Passing, commit-call}
 use Rattle.trial_laws.proofs.ClientCalls.{Replying, reply-step}
-use Rattle.trial_laws.proofs.Reached.{Reached, reached-act, one-way, takes, commit-passed, server-sizes}
-use Rattle.trial_laws.proofs.Shows.{Shows}
+use Rattle.trial_ways.proofs.Reached.{Reached, reached-act, one-way, takes, commit-passed, server-sizes}
+use Rattle.trial_ways.proofs.Shows.{Shows}
 use Rattle.trial_laws.proofs.InvokeMove.{Moved}
 use Rattle.trial_laws.proofs.Replied.{relogged, repliedWorld, replied-shows}
 

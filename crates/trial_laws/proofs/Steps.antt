@@ -12,14 +12,15 @@ use Rattle.replica.specs.declared.Replica.{Replica}
 use Rattle.server.specs.declared.Server.{Server}
 use Rattle.progress.specs.HonestRuns as H
 use Rattle.progress.specs.HonestRuns.{World, runFrom, toldIn}
-use Rattle.trial_text.specs.Line.{Asked, invoke, deliver, other, Word, bad, full}
+use Rattle.trial_words.specs.Words.{Asked, invoke, deliver, other}
+use Rattle.trial_said.specs.Word.{Word, bad, full}
 use Rattle.trial_core.specs.Trial as T
 use Rattle.trial_core.specs.Trial.{Lent, Move, LineStep, isClient, replicaOf, moved, unmoved, invokeMove, deliverMove, commandStep, offerTo, againOf, againTrial, againLent, lineStep}
 use Rattle.trial_core.specs.declared.Trial.{Trial}
 use Rattle.trial_laws.specs.TrialRuns.{isFull, deliverActions, invokeActions, lineActions, invokeWord, deliverWord, lineVan, lineWord, offers, offered, afterLine}
-use Rattle.trial_laws.proofs.Parts.{bool-cases}
-use Rattle.trial_laws.proofs.Reached.{Reached, reached-run}
-use Rattle.trial_laws.proofs.Shows.{Shows}
+use Rattle.trial_ways.proofs.Parts.{bool-cases}
+use Rattle.trial_ways.proofs.Reached.{Reached, reached-run}
+use Rattle.trial_ways.proofs.Shows.{Shows}
 use Rattle.trial_laws.proofs.Again.{Good, again}
 use Rattle.trial_laws.proofs.Full.{full-same}
 use Rattle.trial_laws.proofs.InvokeMove.{Moved, invoke-move}

@@ -10,16 +10,16 @@ use native.Mathlib.Omega.{arith}
 use native.Mathlib.Numerals.{add-one}
 use native.Mathlib.Nat.{eq-or-lt-of-le, le-of-suc-le-suc}
 use Rattle.replica.specs.Replica.{zeroReplica}
-use Rattle.client_invoke.specs.Invoke.{openStep}
+use Rattle.client_open.specs.Open.{openStep}
 use Rattle.progress.specs.HonestRuns.{World, start, runFrom}
-use Rattle.trial_text.specs.Line.{Asked}
+use Rattle.trial_words.specs.Words.{Asked}
 use Rattle.trial_core.specs.Trial.{Lent, lineStep, trialKeys, replicasTo, startTrial, startLent}
 use Rattle.trial_core.specs.declared.Trial.{Trial}
 use Rattle.trial_laws.specs.TrialRuns.{lineActions, offers, offered, afterLine, trialWorld, trialActions, trialWords, printed, TrialRun, TrialHonest}
-use Rattle.trial_laws.proofs.Ring.{logFrom}
-use Rattle.trial_laws.proofs.Ways.{none}
-use Rattle.trial_laws.proofs.Reached.{Reached, run-append, reached-start, reached-run}
-use Rattle.trial_laws.proofs.Shows.{ClientAt, Sizes, trues}
+use Rattle.trial_ways.proofs.Ring.{logFrom}
+use Rattle.trial_ways.proofs.Ways.{none}
+use Rattle.trial_ways.proofs.Reached.{Reached, run-append, reached-start, reached-run}
+use Rattle.trial_ways.proofs.Shows.{ClientAt, Sizes, trues}
 use Rattle.trial_laws.proofs.Steps.{Shown, line-result}
 
 -- ---- the start

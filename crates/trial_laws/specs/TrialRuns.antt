@@ -12,7 +12,8 @@ use Rattle.client_invoke.specs.Invoke.{invokeStep}
 use Rattle.server.specs.Server.{serverStep}
 use Rattle.progress.specs.HonestRuns as H
 use Rattle.progress.specs.HonestRuns.{World, Line, Action, act, runFrom, start, toldIn}
-use Rattle.trial_text.specs.Line.{Asked, invoke, deliver, other, Word, empty, halt, bad, full}
+use Rattle.trial_words.specs.Words.{Asked, invoke, deliver, other}
+use Rattle.trial_said.specs.Word.{Word, empty, halt, bad, full}
 use Rattle.trial_core.specs.Trial.{Lent, lineStep, startTrial, startLent, trialKeys, toldWord, servedWord, isSuccess, isClient}
 use Rattle.trial_core.specs.declared.Trial.{Trial}
 

@@ -10,11 +10,14 @@ use Rattle.slices.specs.Bytes.{put}
 use Rattle.slices.proofs.Laws.{put-length, drop-put}
 use Rattle.text.specs.Text.{placeOf}
 use Rattle.text.proofs.Cuts.{Cut, cut-start, cut-more}
-use Rattle.trial_text.specs.Line.{Asked, Word, parse, lineBytes}
+use Rattle.trial_words.specs.Words.{Asked}
+use Rattle.trial_parse.specs.Parse.{parse}
+use Rattle.trial_print.specs.Line.{lineBytes}
 use Rattle.trial_core.specs.declared.Trial.{Trial}
-use Rattle.trial_core.specs.Trial.{Lent, LineStep, lineStep}
-use Rattle.trial_lines.specs.declared.Line.{Line}
-use Rattle.trial_lines.specs.Lines.{Run, nextRun, runLines, linesOf, Said, Answers}
+use Rattle.trial_core.specs.Trial.{Lent, lineStep}
+use Rattle.trial_answer.specs.declared.Line.{Line}
+use Rattle.trial_answer.specs.Answer.{Said}
+use Rattle.trial_lines.specs.Lines.{Run, nextRun, runLines, linesOf, Answers}
 
 pub run-more : (w : Run) (ls : List (List ℕ)) (l : List ℕ) → runLines w (ls ++ (l ∷ [])) ≡ nextRun (runLines w ls) (parse l)
 unfolding runLines
@@ -31,23 +34,6 @@ module _ (z L : List ℕ) (at : ℕ) (h : at + length L ≤ length z) where
   front-more =
       let g : length (take at z ++ L) ≡ at + length L = simp (length-append, length-take) (omega arith) in
       take-at (take at z ++ L) (drop (at + length L) z) (at + length L) g
-
-pub said-of :
-    (t : Trial) (n : ℕ) (b : Lent) (a : Asked) (out : List ℕ) (at : ℕ) (r : Line) (b′ : Lent) (out′ : List ℕ) (v : ℕ) (x : Word) →
-    _≡_ {A = LineStep} (record { trial = r .trial; lent = b′; van = v; word = x }) (lineStep t b a) →
-    r .filled ≡ at + length (lineBytes n v x) →
-    out′ ≡ put out at (lineBytes n v x) →
-    r .filled ≤ at + 64 →
-    Said t n b a out at r b′ out′
-said-of t n b a out at r b′ out′ v x e f g h =
-    let l : lineBytes n v x ≡ lineBytes n (lineStep t b a .van) (lineStep t b a .word) = ap (λ (s : LineStep). lineBytes n (s .van) (s .word)) e in
-    record {
-      trial = ap (λ (s : LineStep). s .trial) e;
-      lent = ap (λ (s : LineStep). s .lent) e;
-      place = f ∙ ap (λ (s : List ℕ). at + length s) l;
-      bytes = g ∙ ap (λ (s : List ℕ). put out at s) l;
-      most = h;
-    }
 
 -- the first `count` lines are answered
 pub record So (t₀ : Trial) (n : ℕ) (b₀ : Lent) (text out₀ : List ℕ) (t : Trial) (b : Lent) (out : List ℕ) (count at filled : ℕ) : Type 0 where

@@ -4,13 +4,13 @@ use mathlib.Core.Path.{_≡_}
 use mathlib.Core.List.{List, [], _∷_, _++_}
 use mathlib.Core.Logic.{_⊎_}
 use lib.ListN.{length, take, drop}
-use Rattle.slices.specs.Bytes.{put}
 use Rattle.text.specs.Text.{cut}
-use Rattle.trial_text.specs.Line.{Asked, parse, lineBytes}
+use Rattle.trial_words.specs.Words.{Asked}
+use Rattle.trial_parse.specs.Parse.{parse}
+use Rattle.trial_print.specs.Line.{lineBytes}
 use Rattle.trial_core.specs.declared.Trial.{Trial}
 use Rattle.trial_core.specs.Trial.{Lent, lineStep}
 use Rattle.trial_lines.specs.declared.Answered.{Answered}
-use Rattle.trial_lines.specs.declared.Line.{Line}
 
 -- the program between two lines: the trial, the bytes lent to it, how many lines there were, and what was printed
 pub record Run : Type 0 where
@@ -52,11 +52,3 @@ pub record Answers (t : Trial) (n : ℕ) (b : Lent) (text out : List ℕ) (r : A
   pub rest : drop (r .filled) out′ ≡ drop (r .filled) out
   -- no whole line is left, or less room than a line may need
   pub ends : (linesOf (drop (r .used) text) ≡ drop (r .used) text ∷ []) ⊎ (length out < r .filled + 64)
-
--- a command was answered, as line n, into `out` from `at` on
-pub record Said (t : Trial) (n : ℕ) (b : Lent) (a : Asked) (out : List ℕ) (at : ℕ) (r : Line) (b′ : Lent) (out′ : List ℕ) : Type 0 where
-  pub trial : r .trial ≡ lineStep t b a .trial
-  pub lent : b′ ≡ lineStep t b a .lent
-  pub place : r .filled ≡ at + length (lineBytes n (lineStep t b a .van) (lineStep t b a .word))
-  pub bytes : out′ ≡ put out at (lineBytes n (lineStep t b a .van) (lineStep t b a .word))
-  pub most : r .filled ≤ at + 64

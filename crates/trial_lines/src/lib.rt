@@ -1,11 +1,9 @@
 // Lines of input answered into a buffer. Definitions: specs/Lines.antt.
 use trial_core::Trial;
-use trial_text::Command;
 ghost use Prim.Native.Nat.{_+_, _≤_, _<_, _^_};
 ghost use lib.ListN.{length};
-ghost use Rattle.trial_text.specs.Line.{asked};
-ghost use Rattle.trial_moves.specs.Moves.{lentOf};
-ghost use Rattle.trial_lines.specs.Lines.{Answers, Said};
+ghost use Rattle.trial_core.specs.Moves.{lentOf};
+ghost use Rattle.trial_lines.specs.Lines.{Answers};
 
 // After some lines: the trial, how many lines there were and how many bytes they have, and how many bytes were written.
 pub struct Answered {
@@ -13,37 +11,6 @@ pub struct Answered {
     pub count: u64,
     pub used: usize,
     pub filled: usize,
-}
-
-// After one line: the trial, and the place after what was written.
-pub struct Line {
-    pub trial: Trial,
-    pub filled: usize,
-}
-
-// Answers a command, as line `number`, into `out` from `at` on.
-pub fn answer(
-    trial: Trial,
-    number: u64,
-    command: Command,
-    out: &mut [u8],
-    at: usize,
-    log: &mut [u8; 40960],
-    replies: &mut [u8; 10520],
-    invokes: &mut [u8; 344],
-) -> Line
-    requires { ⌜ at + 64 ≤ length (now out) ⌝ }
-    ensures { λ r. ⌜ Said trial number (lentOf (now (log .entry)) (now (replies .entry)) (now (invokes .entry))) (asked command) (now (out .entry)) at
-        r (lentOf (now (log .exit)) (now (replies .exit)) (now (invokes .exit))) (now (out .exit)) ⌝ }
-{
-    let r = trial_step::step(trial, command, log, replies, invokes);
-    let after = r.trial;
-    let said = r.said;
-    let filled = trial_text::put_line(out, at, number, r.van, said);
-    Line {
-        trial: after,
-        filled,
-    }
 }
 
 // Answers the lines of `text`, the first as line `number` + 1, until none is left or `out` has less room than a line may need.
@@ -75,8 +42,8 @@ pub fn answers(
                 filled,
             };
         }
-        let command = trial_text::parse(&text[at..end]);
-        let q = answer(
+        let command = trial_parse::parse(&text[at..end]);
+        let q = trial_answer::answer(
             t,
             number + count + 1,
             command,

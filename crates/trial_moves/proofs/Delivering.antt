@@ -1,54 +1,22 @@
--- Commits and deliveries: what the code's parts come to. Assumes nothing.
-use Prim.Native.Nat.{ℕ, _+_, _-_, _*_, _%_, _≤_}
+-- Deliveries: what the code's parts come to. Assumes nothing.
+use Prim.Native.Nat.{ℕ, _+_, _*_, _≤_}
 use mathlib.Core.Path.{_≡_, refl, sym, ap, _∙_}
 use mathlib.Core.List.{List}
 use mathlib.Core.Bool.{true, false, not, _&&_}
 use lib.Dec.{leb, eqb}
-use lib.ListN.{length, getD, take, drop, replicate, length-append}
-use native.Mathlib.Omega.{arith}
+use lib.ListN.{getD, take, drop, replicate}
 use borrow.Author.Tests.{leb-true}
-use Rattle.trial_text.specs.Line.{Word, empty}
+use Rattle.trial_said.specs.Word.{Word, empty}
 use Rattle.replica.specs.declared.Replica.{Replica}
 use Rattle.replica.specs.Replica.{After, Step, over}
 use Rattle.checks.proofs.Laws.{and-yes}
 use Rattle.client.specs.Receive.{receiveStep}
 use Rattle.server.specs.declared.Server.{Server}
-use Rattle.server.specs.Server.{ServerTold, serverStep}
-use Rattle.server.specs.Server as S
+use Rattle.server.specs.Server.{serverStep}
 use Rattle.trial_core.specs.declared.Lines.{Lines}
-use Rattle.trial_core.specs.Trial.{Move, isSuccess, broadcastCount, toldWord, logged, replyFirst, broadcastFirst, withoutReply, withoutBroadcast, stoppedMove, repliedMove, confirmedMove, replyMove, broadcastMove, emptyMove, deliverMove}
-use Rattle.trial_moves.specs.Moves.{lentOf}
-use Rattle.trial_moves.proofs.Laws.{logged-over}
-use Rattle.server_laws.proofs.State.{Sizes}
-use Rattle.trial_offer.proofs.ServerWrote.{server-wrote}
-use Rattle.trial_moves.proofs.Invoking.{move-same}
-
--- ---- a commit
-module _ (s : Server) (line : ℕ) (m out log : List ℕ) (sz : Sizes s) (z : length out ≡ 2560) (y : List ℕ) where
-  abbrev served : S.Step
-  served = serverStep s line m (length out)
-
-  module _ (ey : y ≡ over (served .wrote) out) {o : ServerTold} (eo : o ≡ served .says) {n : ℕ} (en : n ≡ broadcastCount o) where
-    count-is : n ≡ broadcastCount (served .says)
-    count-is = en ∙ ap broadcastCount eo
-
-    sent-fits : n * 80 ≤ length (served .wrote)
-    sent-fits = rw count-is (server-wrote s sz line m (length out) .sent)
-
-    pub commit-fits : n * 80 ≤ length y
-    commit-fits = rw ey (omega (arith, sent-fits, length-append (served .wrote) (drop (length (served .wrote)) out)))
-
-    pub commit-logged : {now : List ℕ} → now ≡ logged log (s .passed) n y
-        → now ≡ logged log (s .passed) (broadcastCount (serverStep s line m 2560 .says)) (serverStep s line m 2560 .wrote)
-    commit-logged e =
-        e
-        ∙ ap (λ (x : List ℕ). logged log (s .passed) n x) ey
-        ∙ logged-over log (s .passed) n (served .wrote) out sent-fits
-        ∙ ap (λ (x : ℕ). logged log (s .passed) x (served .wrote)) count-is
-        ∙ ap (λ (x : ℕ). logged log (s .passed) (broadcastCount (serverStep s line m x .says)) (serverStep s line m x .wrote)) z
-
-  pub commit-server : served .server ≡ serverStep s line m 2560 .server
-  commit-server = ap (λ (x : ℕ). serverStep s line m x .server) z
+use Rattle.trial_core.specs.Trial.{Move, isSuccess, broadcastCount, toldWord, logged, replyFirst, broadcastFirst, withoutReply, stoppedMove, repliedMove, replyMove, broadcastMove, emptyMove, deliverMove}
+use Rattle.trial_core.specs.Moves.{lentOf}
+use Rattle.trial_core.proofs.Laws.{move-same}
 
 -- ---- delivering
 module _ (r : Replica) (s : Server) (l : Lines) (i : ℕ) (log replies invokes : List ℕ) (k : ℕ) where
@@ -91,36 +59,6 @@ module _ (r : Replica) (s : Server) (l : Lines) (i : ℕ) (log replies invokes :
       reply-stops t =
           let u : isSuccess (meant .after .says) ≡ false = ap (λ (x : After). isSuccess (x .says)) (sym reply-after) ∙ t in
           rw u (move-same (ap (λ (x : After). x .replica) reply-after) refl refl reply-word refl refl refl)
-
-  module _ (hk : k ≡ 80) where
-    abbrev heard : Step
-    heard = receiveStep r (take k (drop (getD (l .next) i 0 % 512 * 80) log)) 80
-
-    abbrev due : Step
-    due = receiveStep r (take 80 (drop (getD (l .next) i 0 % 512 * 80) log)) 80
-
-    module _ {a : After} (ea : a ≡ heard .after) {w : Word} (ew : w ≡ toldWord (a .says)) where
-      broadcast-after : a ≡ due .after
-      broadcast-after = ea ∙ ap (λ (x : ℕ). receiveStep r (take x (drop (getD (l .next) i 0 % 512 * 80) log)) 80 .after) hk
-
-      broadcast-word : w ≡ toldWord (due .after .says)
-      broadcast-word = ew ∙ ap (λ (x : After). toldWord (x .says)) broadcast-after
-
-      pub broadcast-goes : isSuccess (a .says) ≡ true → {ln : Lines} → ln ≡ withoutBroadcast l i
-          → _≡_ {A = Move} (record { replica = a .replica; server = s; lines = ln; word = w; log = log; replies = replies; invokes = invokes })
-          (broadcastMove r s l i (lentOf log replies invokes))
-      unfolding broadcastMove confirmedMove
-      broadcast-goes t {ln} el =
-          let u : isSuccess (due .after .says) ≡ true = ap (λ (x : After). isSuccess (x .says)) (sym broadcast-after) ∙ t in
-          rw u (move-same (ap (λ (x : After). x .replica) broadcast-after) refl el broadcast-word refl refl refl)
-
-      pub broadcast-stops : isSuccess (a .says) ≡ false
-          → _≡_ {A = Move} (record { replica = a .replica; server = s; lines = l; word = w; log = log; replies = replies; invokes = invokes })
-          (broadcastMove r s l i (lentOf log replies invokes))
-      unfolding broadcastMove stoppedMove
-      broadcast-stops t =
-          let u : isSuccess (due .after .says) ≡ false = ap (λ (x : After). isSuccess (x .says)) (sym broadcast-after) ∙ t in
-          rw u (move-same (ap (λ (x : After). x .replica) broadcast-after) refl refl broadcast-word refl refl refl)
 
 -- ---- the head of a line
 pub reply-short : (l : Lines) (i : ℕ) → replyFirst l i ≡ true → getD (l .lengths) i 0 ≤ 1315

@@ -6,22 +6,17 @@ use mathlib.Core.Bool.{true, false, true≢false}
 use lib.ListN.{length, take, drop, take-append-drop}
 use native.Mathlib.Omega.{arith}
 use Rattle.slices.specs.Bytes.{put}
-use Rattle.trial_text.specs.Line.{Word}
+use Rattle.trial_said.specs.Word.{Word}
 use Rattle.replica.specs.declared.Replica.{Replica}
 use Rattle.replica.specs.Replica.{After, Step, over, stopStep}
 use Rattle.checks.proofs.Laws.{call-cases}
 use Rattle.client_invoke.specs.Invoke.{invokeNo, invokeStep}
 use Rattle.server.specs.declared.Server.{Server}
 use Rattle.trial_core.specs.declared.Lines.{Lines}
+use Rattle.trial_core.proofs.Laws.{move-same}
 use Rattle.trial_core.specs.Trial.{Offering, Move, isSuccess, toldWord, invokeBytes, offer, invokedMove, stoppedMove, invokeMove}
-use Rattle.trial_moves.specs.Moves.{lentOf}
+use Rattle.trial_core.specs.Moves.{lentOf}
 use Rattle.trial_offer.proofs.Parts.{over-fits, part-over, part-length}
-
-pub move-same : {r r2 : Replica} {s s2 : Server} {l l2 : Lines} {w w2 : Word} {a a2 b b2 d d2 : List ℕ}
-    → r ≡ r2 → s ≡ s2 → l ≡ l2 → w ≡ w2 → a ≡ a2 → b ≡ b2 → d ≡ d2
-    → _≡_ {A = Move} (record { replica = r; server = s; lines = l; word = w; log = a; replies = b; invokes = d })
-    (record { replica = r2; server = s2; lines = l2; word = w2; log = a2; replies = b2; invokes = d2 })
-move-same er es el ew ea eb ed = rw (er, es, el, ew, ea, eb, ed)
 
 put-none : (s : List ℕ) (at : ℕ) → put s at [] ≡ s
 put-none s at = let e : at + 0 ≡ at = omega arith in rw (append-nil (take at s), e) (take-append-drop at s)

@@ -8,7 +8,7 @@ use native.Mathlib.Omega.{arith}
 use native.Mathlib.Numerals.{add-one}
 use Rattle.slices.specs.Bytes.{put}
 use Rattle.replica.specs.Replica.{over}
-use Rattle.trial_text.specs.Line.{Word, empty}
+use Rattle.trial_said.specs.Word.{Word, empty}
 use Rattle.server.specs.declared.Server.{Server}
 use Rattle.server.specs.Server.{ServerTold, Step, serverStep}
 use Rattle.trial_core.specs.declared.Lines.{Lines}

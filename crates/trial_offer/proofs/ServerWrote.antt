@@ -17,7 +17,7 @@ use Rattle.server_laws.proofs.Checks.{Placeable, Storable, server-cases}
 use Rattle.server_laws.proofs.Calls.{commit-long}
 use Rattle.server_invoke.specs.Invoke.{itemsIn}
 use Rattle.server_invoke.proofs.Laws.{items-in, items-count, reply-length}
-use Rattle.server_pass.proofs.Laws.{broadcasts-length}
+use Rattle.server_broadcast.proofs.Laws.{broadcasts-length}
 use Rattle.trial_core.specs.Trial.{isPlaced, broadcastCount}
 
 pub record Wrote (q : Step) : Type 0 where

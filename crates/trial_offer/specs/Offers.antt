@@ -1,7 +1,7 @@
 -- What the code of an offer hands back, as the definitions have it.
 use Prim.Native.Nat.{ℕ}
 use mathlib.Core.List.{List}
-use Rattle.trial_text.specs.Line.{word, empty}
+use Rattle.trial_said.specs.Word.{word, empty}
 use Rattle.server.specs.declared.Server.{Server}
 use Rattle.trial_core.specs.declared.Lines.{Lines}
 use Rattle.trial_core.specs.Trial.{Offering, offerOne, offerTo}

@@ -8,7 +8,7 @@ ghost use Rattle.trial_core.specs.Trial.{withReply, withRefused, offer};
 ghost use Rattle.trial_offer.specs.Offers.{offeringOf, againOffering, offeredOne, offeredTo};
 use server::Server;
 use trial_core::Lines;
-use trial_text::Said;
+use trial_said::Said;
 
 // The server and the lines after an invoke is offered, and what that prints.
 pub struct Offered {
@@ -37,9 +37,9 @@ fn offered_lines(l: Lines, i: usize, placed: bool, passed: u32, length: u32) -> 
     ensures { λ r. ⌜ r ≡ cond placed (withReply l i passed length) (withRefused l i) ⌝ }
 {
     if placed {
-        trial_core::with_reply(l, i, passed, length)
+        trial_queue::with_reply(l, i, passed, length)
     } else {
-        trial_core::with_refused(l, i)
+        trial_queue::with_refused(l, i)
     }
 }
 
@@ -54,9 +54,9 @@ pub fn offer(s: Server, l: Lines, i: usize, m: &[u8], replies: &mut [u8]) -> Off
     let outcome = q.outcome;
     let server = q.server;
     let length = reply_length(replies, at);
-    let placed = trial_core::is_placed(outcome);
+    let placed = trial_outcome::is_placed(outcome);
     let lines = offered_lines(l, i, placed, server.passed, length);
-    let said = trial_core::served_said(outcome);
+    let said = trial_outcome::served_said(outcome);
     Offered {
         server,
         lines,
@@ -70,7 +70,7 @@ fn offer_one(s: Server, l: Lines, i: usize, replies: &mut [u8], invokes: &[u8]) 
     ensures { λ q. ⌜ againOffering q (now (replies .exit)) ≡ offeredOne s l i (now (replies .entry)) (now (invokes .entry)) ⌝ }
 {
     let refused = l.refused;
-    if refused[i] & trial_core::has_place(s) {
+    if refused[i] & trial_room::has_place(s) {
         let at = i * 43;
         let end = at + 43;
         let o = offer(s, l, i, &invokes[at..end], replies);

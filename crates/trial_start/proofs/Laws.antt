@@ -8,7 +8,7 @@ use native.Mathlib.Numerals.{add-one}
 use Rattle.slices.specs.Bytes.{put}
 use Rattle.message.proofs.Laws.{put-next}
 use Rattle.replica.specs.declared.Replica.{Replica}
-use Rattle.client_invoke.specs.Invoke.{openStep}
+use Rattle.client_open.specs.Open.{openStep}
 use Rattle.server.specs.declared.Server.{Server}
 use Rattle.server.specs.Server.{freshServer}
 use Rattle.trial_core.specs.declared.Lines.{Lines}

@@ -1,7 +1,7 @@
 // The trial program's start (document 01, "Cases"). Definitions: specs/Trial.antt of trial_core.
 ghost use mathlib.Core.Path.{_≡_};
 ghost use lib.ListN.{replicate};
-ghost use Rattle.client_invoke.specs.Invoke.{openStep};
+ghost use Rattle.client_open.specs.Open.{openStep};
 ghost use Rattle.trial_core.specs.Trial.{trialKeys, startTrial};
 use replica::Replica;
 use trial_core::Lines;

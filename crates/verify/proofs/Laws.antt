@@ -1,13 +1,12 @@
--- Tags and chain values are 32 bytes long. Assumes nothing.
-use Prim.Native.Nat.{ℕ, _+_, _*_, _≤_}
+-- Tags and links of the chain are 32 bytes long. Assumes nothing.
+use Prim.Native.Nat.{ℕ}
 use mathlib.Core.Path.{_≡_}
 use mathlib.Core.List.{List}
-use lib.ListN.{length, length-take, length-drop}
-use native.Mathlib.Omega.{arith}
+use lib.ListN.{length}
 use Rattle.sha256.proofs.Padding.{sha256-length}
 use Rattle.hmac.proofs.Laws.{hmac-length}
 use Rattle.operation.specs.declared.Operation.{Operation}
-use Rattle.verify.specs.Verify.{invokeTag, commitTag, valueAt, linkValue}
+use Rattle.verify.specs.Verify.{invokeTag, commitTag, linkValue}
 
 pub invoke-tag-length : (keys : List ℕ) (e : Operation) (author : ℕ) → length (invokeTag keys e author) ≡ 32
 unfolding invokeTag
@@ -21,7 +20,3 @@ commit-tag-length keys e author seq digest status = hmac-length _ _
 pub link-length : (value : List ℕ) (e : Operation) (seq author : ℕ) → length (linkValue value e seq author) ≡ 32
 unfolding linkValue
 link-length value e seq author = sha256-length _
-
-pub value-length : (k : ℕ) (chain : List ℕ) → k * 32 + 32 ≤ length chain → length (valueAt k chain) ≡ 32
-unfolding valueAt
-value-length k chain h = simp (length-take, length-drop) (omega arith)

@@ -9,11 +9,12 @@ use Rattle.hmac.specs.Hmac.{hmac}
 use Rattle.operation.specs.declared.Operation.{Operation}
 use Rattle.message.specs.declared.Item.{Item}
 use Rattle.message.specs.declared.Commit.{Commit}
+use Rattle.message.specs.Layout.{keyLength}
 use Rattle.message.specs.Message.{invokeString, commitString, chainString}
 
 -- "Each van has a 32-byte key; every van holds all eight, van 1's first."
 unfoldable pub keyOf : List ℕ → ℕ → List ℕ
-keyOf keys n = take 32 (drop ((n - 1) * 32) keys)
+keyOf keys n = take keyLength (drop ((n - 1) * keyLength) keys)
 
 -- "The `IN` tag is made with the author's key over `IN`, entry, author"
 unfoldable pub invokeTag : List ℕ → Operation → ℕ → List ℕ
@@ -29,10 +30,6 @@ itemTagOk keys i = same (i .tag) (invokeTag keys (i .op) (i .author))
 
 unfoldable pub commitTagOk : List ℕ → Commit → Bool
 commitTagOk keys k = same (k .tag) (commitTag keys (k .op) (k .author) (k .seq) (k .digest) (k .status))
-
--- a replica's chain has 33 values of 32 bytes: value k is the one k sequence numbers past the last confirmed one
-unfoldable pub valueAt : ℕ → List ℕ → List ℕ
-valueAt k chain = take 32 (drop (k * 32) chain)
 
 -- "At place p it is the digest of 45 bytes: value at p − 1, entry, p, author."
 unfoldable pub linkValue : List ℕ → Operation → ℕ → ℕ → List ℕ

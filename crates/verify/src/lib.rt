@@ -1,80 +1,95 @@
 // Tags by the clients' keys, and values of the hash chain. Definitions: specs/Verify.antt.
 ghost use mathlib.Core.Path.{_≡_};
-ghost use Prim.Native.Nat.{_≤_};
-ghost use lib.ListN.{length};
-ghost use Rattle.hmac.specs.Hmac.{hmac};
-ghost use Rattle.verify.specs.Verify.{keyOf, invokeTag, commitTag, itemTagOk, commitTagOk, valueAt, linkValue};
+ghost use mathlib.Core.List.{List};
+ghost use Prim.Native.Nat.{ℕ, _≤_};
+ghost use Rattle.slices.specs.Bytes.{same};
+ghost use Rattle.message.specs.Layout.{clientCount};
+ghost use Rattle.hmac.specs.Keyed.{keyedOf};
+ghost use Rattle.verify.specs.Verify.{keyOf, invokeTag, commitTag, itemTagOk, commitTagOk, linkValue};
+use hmac::Keyed;
 use message::Commit;
 use message::Item;
 use operation::Operation;
 
-// The tag of `m` by a client's key.
-fn key_tag(keys: [u8; 256], client: u8, m: &[u8]) -> [u8; 32]
-    requires { ⌜ (1 ≤ client) × (client ≤ 8) × (length (now m) ≤ 65535) ⌝ }
-    ensures { λ r. ⌜ r ≡ hmac (keyOf keys client) (now (m .entry)) ⌝ }
+// What each tag by a client's key starts from.
+pub fn key_state(keys: [u8; message::KEYS_LENGTH], client: u8) -> Keyed
+    requires { ⌜ (1 ≤ client) × (client ≤ clientCount) ⌝ }
+    ensures { λ r. ⌜ r ≡ keyedOf (keyOf keys client) ⌝ }
 {
-    let a = (client as usize - 1) * 32;
-    hmac::tag_of(&keys[a..a + 32], m)
+    let a = (client as usize - 1) * message::KEY_LENGTH;
+    hmac::keyed_of(&keys[a..a + message::KEY_LENGTH])
+}
+
+// The tag of an invoke, from its author's key.
+fn invoke_tag_by(s: Keyed, e: Operation, author: u8) -> [u8; message::TAG_LENGTH]
+    ensures { λ r. ⌜ ((keys : List ℕ) → s ≡ keyedOf (keyOf keys author) → r ≡ invokeTag keys e author) ⌝ }
+{
+    let m = message::invoke_string(e, author);
+    hmac::tag_by(s, &m)
 }
 
 // The tag of an invoke.
-pub fn invoke_tag(keys: [u8; 256], e: Operation, author: u8) -> [u8; 32]
-    requires { ⌜ (1 ≤ author) × (author ≤ 8) ⌝ }
+pub fn invoke_tag(
+    keys: [u8; message::KEYS_LENGTH],
+    e: Operation,
+    author: u8,
+) -> [u8; message::TAG_LENGTH]
+    requires { ⌜ (1 ≤ author) × (author ≤ clientCount) ⌝ }
     ensures { λ r. ⌜ r ≡ invokeTag keys e author ⌝ }
 {
-    let s = message::invoke_string(e, author);
-    key_tag(keys, author, &s)
+    invoke_tag_by(key_state(keys, author), e, author)
 }
 
-// The tag of a commit.
-pub fn commit_tag(
-    keys: [u8; 256],
+// The tag of a commit, from its author's key.
+pub fn commit_tag_by(
+    s: Keyed,
     e: Operation,
     author: u8,
     seq: u32,
-    digest: [u8; 32],
+    digest: [u8; message::DIGEST_LENGTH],
     status: u8,
-) -> [u8; 32]
-    requires { ⌜ (1 ≤ author) × (author ≤ 8) ⌝ }
-    ensures { λ r. ⌜ r ≡ commitTag keys e author seq digest status ⌝ }
+) -> [u8; message::TAG_LENGTH]
+    ensures { λ r. ⌜ ((keys : List ℕ) → s ≡ keyedOf (keyOf keys author) → r ≡ commitTag keys e author seq digest status) ⌝ }
 {
-    let s = message::commit_string(e, author, seq, digest, status);
-    key_tag(keys, author, &s)
+    let m = message::commit_string(e, author, seq, digest, status);
+    hmac::tag_by(s, &m)
 }
 
-// Whether an item's tag is right.
-pub fn item_tag_ok(keys: [u8; 256], i: Item) -> bool
-    requires { ⌜ (1 ≤ i .author) × (i .author ≤ 8) ⌝ }
-    ensures { λ r. ⌜ r ≡ itemTagOk keys i ⌝ }
+// Whether a tag is the right one. Tags are compared here only.
+fn tag_is(tag: [u8; message::TAG_LENGTH], right: [u8; message::TAG_LENGTH]) -> bool
+    ensures { λ r. ⌜ r ≡ same tag right ⌝ }
 {
-    let e = i.op;
-    let tag = i.tag;
-    let right = invoke_tag(keys, e, i.author);
     slices::equal(&tag, &right)
 }
 
+// Whether an item's tag is right, from its author's key.
+pub fn item_tag_ok(s: Keyed, i: Item) -> bool
+    ensures { λ r. ⌜ ((keys : List ℕ) → s ≡ keyedOf (keyOf keys (i .author)) → r ≡ itemTagOk keys i) ⌝ }
+{
+    let e = i.op;
+    let tag = i.tag;
+    tag_is(tag, invoke_tag_by(s, e, i.author))
+}
+
 // Whether a broadcast's tag is right.
-pub fn commit_tag_ok(keys: [u8; 256], k: Commit) -> bool
-    requires { ⌜ (1 ≤ k .author) × (k .author ≤ 8) ⌝ }
+pub fn commit_tag_ok(keys: [u8; message::KEYS_LENGTH], k: Commit) -> bool
+    requires { ⌜ (1 ≤ k .author) × (k .author ≤ clientCount) ⌝ }
     ensures { λ r. ⌜ r ≡ commitTagOk keys k ⌝ }
 {
     let e = k.op;
     let digest = k.digest;
     let tag = k.tag;
-    let right = commit_tag(keys, e, k.author, k.seq, digest, k.status);
-    slices::equal(&tag, &right)
-}
-
-// Value `k` of a replica's chain.
-pub fn value_at(chain: [u8; 1056], k: usize) -> [u8; 32]
-    requires { ⌜ k ≤ 32 ⌝ }
-    ensures { λ r. ⌜ r ≡ valueAt k chain ⌝ }
-{
-    slices::part(&chain, k * 32)
+    let s = key_state(keys, k.author);
+    tag_is(tag, commit_tag_by(s, e, k.author, k.seq, digest, k.status))
 }
 
 // The chain value at `seq`, from the one before it.
-pub fn link_value(value: [u8; 32], e: Operation, seq: u32, author: u8) -> [u8; 32]
+pub fn link_value(
+    value: [u8; message::DIGEST_LENGTH],
+    e: Operation,
+    seq: u32,
+    author: u8,
+) -> [u8; message::DIGEST_LENGTH]
     ensures { λ r. ⌜ r ≡ linkValue value e seq author ⌝ }
 {
     let s = message::chain_string(value, e, seq, author);

@@ -25,17 +25,19 @@ stopped-requires c κs = rw (c .before .broadcast-check .ensures) (broadcast-sto
 returns : tie.Need-returns
 returns c = c .stopped .ensures ∙ rw (c .before .before .broadcast-check .ensures) (broadcast-stops _ _ (stopped (c .before)))
 
-read-commit-requires : tie.Need-read-commit-requires
-read-commit-requires c κs = let y = broadcast-yes _ _ (passed c) in omega (arith, y .long)
+commit-of-requires : tie.Need-commit-of-requires
+commit-of-requires c κs = let y = broadcast-yes _ _ (passed c) in omega (arith, y .long)
 
 confirmed-replica-requires : tie.Need-confirmed-replica-requires
-confirmed-replica-requires c κs = broadcast-yes _ _ (passed (c .before)) .below
+confirmed-replica-requires c κs =
+    let y = broadcast-yes _ _ (passed (c .before)) in
+    rw (c .commit-of .ensures) (y .below, y .digest)
 
 returns-2 : tie.Need-returns-2
 returns-2 c =
     let k = c .before .before in
     let a = k .before .before .before .args in
-    rw (c .confirmed-replica .ensures, c .before .read-commit .ensures) (broadcast-goes (a .r) (a .m .now) (passed k))
+    rw (c .confirmed-replica .ensures, c .before .commit-of .ensures) (broadcast-goes (a .r) (a .m .now) (passed k))
 
 pub broadcast-spec : {M : Type 1} → statement M
 broadcast-spec =
@@ -44,6 +46,6 @@ broadcast-spec =
     broadcast-check-requires
     stopped-requires
     returns
-    read-commit-requires
+    commit-of-requires
     confirmed-replica-requires
     returns-2)

@@ -15,13 +15,13 @@ formed : (c : tie.Else1) → let a = c .before .before .before .args in firstNo 
 formed c = sym (c .before .form-check .ensures) ∙ c .if1 .left
 
 content : (c : tie.After-content-check) → let a = c .before .before .before .before .before .args in c .content-check .result ≡ firstNo 0 (contentChecks (a .r) (commitOf (a .m .now)))
-content c = let a = c .before .before .before .before .before .args in c .content-check .ensures ∙ ap (λ (x : Commit). firstNo 0 (contentChecks (a .r) x)) (c .before .read-commit .ensures)
+content c = let a = c .before .before .before .before .before .args in c .content-check .ensures ∙ ap (λ (x : Commit). firstNo 0 (contentChecks (a .r) x)) (c .before .commit-of .ensures)
 
 form-check-requires : tie.Need-form-check-requires
 form-check-requires c κs = search needs
 
-read-commit-requires : tie.Need-read-commit-requires
-read-commit-requires c κs = let h = form-long _ _ (formed c) in omega (arith, h)
+commit-of-requires : tie.Need-commit-of-requires
+commit-of-requires c κs = let h = form-long _ _ (formed c) in omega (arith, h)
 
 content-check-requires : tie.Need-content-check-requires
 content-check-requires c κs = search needs
@@ -43,7 +43,7 @@ returns-3 : tie.Need-returns-3
 returns-3 c =
     let a = c .before .before .before .before .before .before .before .args in
     c .proof-check .ensures
-    ∙ ap (λ (x : Commit). firstNo 0 (proofChecks (a .r) x)) (c .before .before .before .read-commit .ensures)
+    ∙ ap (λ (x : Commit). firstNo 0 (proofChecks (a .r) x)) (c .before .before .before .commit-of .ensures)
     ∙ proof-decides (a .r) (a .m .now) (formed (c .before .before .before .before)) (sym (content (c .before .before)) ∙ c .before .if2 .left)
 
 pub broadcast-check-spec : {M : Type 1} → statement M
@@ -52,7 +52,7 @@ broadcast-check-spec =
     (tie.spec
     form-check-requires
     returns
-    read-commit-requires
+    commit-of-requires
     content-check-requires
     returns-2
     proof-check-requires

@@ -1,10 +1,8 @@
 use Rattle.client_broadcast.specs.Broadcast.{confirmedReplica}
+use Rattle.client_broadcast.proofs.Laws.{next-is}
 use borrow.Author.Needs.{needs}
 use Rattle.client_broadcast.proofs.confirmed_replica.Statement.{statement}
 use Rattle.client_broadcast.proofs.confirmed_replica.Tie as tie
-
-next-value-requires : tie.Need-next-value-requires
-next-value-requires c κs = search needs
 
 chain-shift-requires : tie.Need-chain-shift-requires
 chain-shift-requires c κs = search needs
@@ -23,13 +21,12 @@ less-one-requires c κs = search needs
 
 returns : tie.Need-returns
 unfolding confirmedReplica
-returns c = rw (c .less-one .ensures, c .before .before .effect-on .ensures, c .before .before .before .before .status-shift .ensures, c .before .before .before .before .before .chain-shift .ensures, c .before .before .before .before .before .before .next-value .ensures)
+returns c = rw (c .less-one .ensures, c .before .before .effect-on .ensures, c .before .before .before .before .status-shift .ensures, c .before .before .before .before .before .chain-shift .ensures, ← next-is _ _ (c .before .before .before .before .before .before .before .before .before .before .before .pre .1))
 
 pub confirmed-replica-spec : {M : Type 1} → statement M
 confirmed-replica-spec =
     tie.close
     (tie.spec
-    next-value-requires
     chain-shift-requires
     status-shift-requires
     effect-on-requires

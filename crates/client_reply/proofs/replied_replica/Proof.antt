@@ -6,6 +6,9 @@ use Rattle.client_reply.proofs.replied_replica.Tie as tie
 sub-k : tie.Need-sub-k
 sub-k c = search needs
 
+no-op-requires : tie.Need-no-op-requires
+no-op-requires c κs = search needs
+
 larger-of-requires : tie.Need-larger-of-requires
 larger-of-requires c κs = search needs
 
@@ -17,8 +20,8 @@ element-write-b c = search needs
 
 returns : tie.Need-returns
 unfolding repliedReplica
-returns c = rw (c .held-status .ensures, c .before .larger-of .ensures)
+returns c = rw (c .held-status .ensures, c .before .larger-of .ensures, c .before .before .no-op .ensures)
 
 pub replied-replica-spec : {M : Type 1} → statement M
 replied-replica-spec =
-    tie.close (tie.spec sub-k larger-of-requires held-status-requires element-write-b returns)
+    tie.close (tie.spec sub-k no-op-requires larger-of-requires held-status-requires element-write-b returns)

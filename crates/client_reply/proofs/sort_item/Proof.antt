@@ -15,13 +15,13 @@ push-other-requires : tie.Need-push-other-requires
 push-other-requires c κs = search needs
 
 returns : tie.Need-returns
-returns c = (c .push-own .ensures .0 ∙ sort-own _ _ _ _ _ (c .before .before .if1 .taken) (c .before .if2 .taken), record { n = omega (arith, c .push-own .ensures .1, c .before .before .before .before .before .pre .1); m = omega (arith, c .push-own .ensures .1, c .before .before .before .before .before .pre .1) })
+returns c = (c .push-own .ensures .0 ∙ sort-own _ _ _ _ _ _ (c .before .before .if1 .taken) (c .before .if2 .taken), record { n = omega (arith, c .push-own .ensures .1, c .before .before .before .before .before .pre .1); m = omega (arith, c .push-own .ensures .1, c .before .before .before .before .before .pre .1) })
 
 returns-2 : tie.Need-returns-2
-returns-2 c = (sort-skip _ _ _ _ _ (c .before .if1 .taken) (c .if2 .left), record { n = omega (arith, c .before .before .before .before .pre .1); m = omega (arith, c .before .before .before .before .pre .1) })
+returns-2 c = (sort-skip _ _ _ _ _ _ (c .before .if1 .taken) (c .if2 .left), record { n = omega (arith, c .before .before .before .before .pre .1); m = omega (arith, c .before .before .before .before .pre .1) })
 
 returns-3 : tie.Need-returns-3
-returns-3 c = (c .push-other .ensures .0 ∙ sort-other _ _ _ _ _ (c .before .if1 .left), record { n = omega (arith, c .push-other .ensures .1, c .before .before .before .before .pre .1); m = omega (arith, c .push-other .ensures .1, c .before .before .before .before .pre .1) })
+returns-3 c = (c .push-other .ensures .0 ∙ sort-other _ _ _ _ _ _ (c .before .if1 .left), record { n = omega (arith, c .push-other .ensures .1, c .before .before .before .before .pre .1); m = omega (arith, c .push-other .ensures .1, c .before .before .before .before .pre .1) })
 
 pub sort-item-spec : {M : Type 1} → statement M
 sort-item-spec =

@@ -9,10 +9,10 @@ use Rattle.client_reply.proofs.sort_to.Statement.{statement}
 use Rattle.client_reply.proofs.sort_to.Tie as tie
 
 abbrev Inv-loop : tie.InvT-loop
-Inv-loop number statuses m n l₀ k₀ l k = (lists l ≡ sortTo number statuses m k) × Full l k × (k ≤ n)
+Inv-loop c number statuses m n l₀ k₀ l k = (lists l ≡ sortTo c number statuses m k) × Full l k × (k ≤ n)
 
 abbrev μ-loop : tie.MeasureT-loop
-μ-loop number statuses m n l₀ k₀ l k = n - k
+μ-loop c number statuses m n l₀ k₀ l k = n - k
 
 no-lists-requires : tie.Need-no-lists-requires Inv-loop μ-loop
 no-lists-requires c κs = search needs

@@ -12,8 +12,8 @@ status-of-requires c κs = search needs
 value-at-requires : tie.Need-value-at-requires
 value-at-requires c κs = search needs
 
-commit-tag-requires : tie.Need-commit-tag-requires
-commit-tag-requires c κs = search needs
+commit-tag-by-requires : tie.Need-commit-tag-by-requires
+commit-tag-by-requires c κs = search needs
 
 write-commit-requires : tie.Need-write-commit-requires
 write-commit-requires c κs = search needs
@@ -23,7 +23,7 @@ same-length c = search needs
 
 returns : tie.Need-returns
 unfolding commitMessage
-returns c = rw (c .before .before .write-commit .ensures, c .before .before .before .before .commit-tag .ensures, c .before .before .before .before .before .value-at .ensures, c .before .before .before .before .before .before .status-of .ensures)
+returns c = rw (c .before .before .write-commit .ensures, c .before .before .before .before .commit-tag-by .ensures _ (c .before .before .before .before .before .before .before .before .before .before .pre .2), c .before .before .before .before .before .value-at .ensures, c .before .before .before .before .before .before .status-of .ensures)
 
 pub write-message-spec : {M : Type 1} → statement M
 write-message-spec =
@@ -32,7 +32,7 @@ write-message-spec =
     add-seq
     status-of-requires
     value-at-requires
-    commit-tag-requires
+    commit-tag-by-requires
     write-commit-requires
     same-length
     returns)

@@ -12,12 +12,12 @@ item-check-requires : tie.Need-item-check-requires
 item-check-requires c κs = search needs
 
 returns : tie.Need-returns
-returns c = let a = c .before .args in sym (first-stays _ (itemChecks (a .r) (a .k) (a .i)) (ne-eqb _ 0 (c .if1 .taken)))
+returns c = let a = c .before .args in sym (first-stays _ (itemChecks (a .r) (a .n) (a .k) (a .i)) (ne-eqb _ 0 (c .if1 .taken)))
 
 returns-2 : tie.Need-returns-2
 returns-2 c =
     let a = c .before .before .args in
-    c .item-check .ensures ∙ ap (λ (n : ℕ). firstNo n (itemChecks (a .r) (a .k) (a .i))) (sym (c .before .if1 .left))
+    c .item-check .ensures ∙ ap (λ (n : ℕ). firstNo n (itemChecks (a .r) (a .n) (a .k) (a .i))) (sym (c .before .if1 .left))
 
 pub item-also-spec : {M : Type 1} → statement M
 item-also-spec = tie.close (tie.spec item-check-requires returns returns-2)

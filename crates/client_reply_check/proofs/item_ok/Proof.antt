@@ -12,9 +12,12 @@ add-seq-2 c = search needs
 op-ok-requires : tie.Need-op-ok-requires
 op-ok-requires c κs = search needs
 
+cast-result : tie.Need-cast-result
+cast-result c = search needs
+
 returns : tie.Need-returns
 unfolding itemOk
 returns c = rw (c .before .before .op-ok .ensures)
 
 pub item-ok-spec : {M : Type 1} → statement M
-item-ok-spec = tie.close (tie.spec add-seq add-seq-2 op-ok-requires returns)
+item-ok-spec = tie.close (tie.spec add-seq add-seq-2 op-ok-requires cast-result returns)

@@ -1,4 +1,4 @@
-use Rattle.client_run.proofs.Laws.{counts}
+use Rattle.call_lines.proofs.Laws.{counts}
 use native.Mathlib.Omega.{arith}
 use borrow.Author.Needs.{needs}
 use Rattle.client_run.proofs.step_in.Statement.{statement}

@@ -1,38 +1,29 @@
-use Rattle.message.specs.Message.{commitOf}
+use mathlib.Core.Path.{sym, _∙_}
+use native.Mathlib.Omega.{arith}
+use Rattle.message.specs.Readers.{readCommit}
+use Rattle.message.proofs.Laws.{commit-length}
 use borrow.Author.Needs.{needs}
 use Rattle.message.proofs.read_commit.Statement.{statement}
 use Rattle.message.proofs.read_commit.Tie as tie
 
-read-op-requires : tie.Need-read-op-requires
-read-op-requires c κs = search needs
+is-commit-requires : tie.Need-is-commit-requires
+is-commit-requires c κs = search needs
 
-shared-slice-read-t4 : tie.Need-shared-slice-read-t4
-shared-slice-read-t4 c = search needs
+commit-of-requires : tie.Need-commit-of-requires
+commit-of-requires c κs = omega (arith, commit-length (c .before .before .before .args .m .now) (sym (c .before .is-commit .ensures) ∙ c .if1 .taken))
 
-word-at-requires : tie.Need-word-at-requires
-word-at-requires c κs = search needs
-
-part-requires : tie.Need-part-requires
-part-requires c κs = search needs
-
-shared-slice-read-t8 : tie.Need-shared-slice-read-t8
-shared-slice-read-t8 c = search needs
-
-part-requires-2 : tie.Need-part-requires-2
-part-requires-2 c κs = search needs
+no-commit-requires : tie.Need-no-commit-requires
+no-commit-requires c κs = search needs
 
 returns : tie.Need-returns
-unfolding commitOf
-returns c = rw (c .part2 .ensures, c .before .before .part .ensures, c .before .before .before .word-at .ensures, c .before .before .before .before .before .read-op .ensures)
+unfolding readCommit
+returns c = rw (sym (c .before .before .is-commit .ensures) ∙ c .before .if1 .taken, c .commit-of .ensures)
+
+returns-2 : tie.Need-returns-2
+unfolding readCommit
+returns-2 c = rw (sym (c .before .before .is-commit .ensures) ∙ c .before .if1 .left, c .no-commit .ensures)
 
 pub read-commit-spec : {M : Type 1} → statement M
 read-commit-spec =
     tie.close
-    (tie.spec
-    read-op-requires
-    shared-slice-read-t4
-    word-at-requires
-    part-requires
-    shared-slice-read-t8
-    part-requires-2
-    returns)
+    (tie.spec is-commit-requires commit-of-requires no-commit-requires returns returns-2)

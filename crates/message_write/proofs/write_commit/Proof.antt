@@ -1,4 +1,4 @@
-use Rattle.message.specs.Message.{commitBytes}
+use Rattle.message.specs.Message.{commitString, commitFields, commitBytes}
 use borrow.Author.Needs.{needs}
 use Rattle.message_write.proofs.write_commit.Statement.{statement}
 use Rattle.message_write.proofs.write_commit.Tie as tie
@@ -10,7 +10,7 @@ same-length : tie.Need-same-length
 same-length c = search needs
 
 returns : tie.Need-returns
-unfolding commitBytes
+unfolding commitBytes commitString commitFields
 returns c = search needs
 
 pub write-commit-spec : {M : Type 1} → statement M

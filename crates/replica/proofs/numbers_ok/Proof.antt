@@ -12,6 +12,12 @@ cast-last-2 c = search needs
 add-last : tie.Need-add-last
 add-last c = search needs
 
+cast-result : tie.Need-cast-result
+cast-result c = search needs
+
+cast-result-2 : tie.Need-cast-result-2
+cast-result-2 c = search needs
+
 is-halt-requires : tie.Need-is-halt-requires
 is-halt-requires c κs = search needs
 
@@ -20,4 +26,4 @@ unfolding numbersOk
 returns c = rw (c .is-halt .ensures)
 
 pub numbers-ok-spec : {M : Type 1} → statement M
-numbers-ok-spec = tie.close (tie.spec cast-last cast-last-2 add-last is-halt-requires returns)
+numbers-ok-spec = tie.close (tie.spec cast-last cast-last-2 add-last cast-result cast-result-2 is-halt-requires returns)

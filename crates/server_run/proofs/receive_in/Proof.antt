@@ -1,16 +1,22 @@
-use Rattle.server_run.proofs.Laws.{counts}
+use Rattle.call_lines.proofs.Laws.{counts}
+use native.Mathlib.Omega.{arith}
 use borrow.Author.Needs.{needs}
 use Rattle.server_run.proofs.receive_in.Statement.{statement}
 use Rattle.server_run.proofs.receive_in.Tie as tie
 
-least-requires : tie.Need-least-requires
-least-requires c κs = search needs
+number-at-requires : tie.Need-number-at-requires
+number-at-requires c κs = search needs
+
+cast-room : tie.Need-cast-room
+cast-room c = search needs
 
 slice-relend-prefix-receive : tie.Need-slice-relend-prefix-receive
 slice-relend-prefix-receive c = search needs
 
 slice-aggregate-receive : tie.Need-slice-aggregate-receive
-slice-aggregate-receive c = counts _ _ (c .before .least .ensures) .1
+slice-aggregate-receive c =
+    let h = c .before .before .before .before .pre in
+    counts (c .before .number-at .result) (c .before .before .before .before .args .out .now) (omega (arith, h, c .before .number-at .ensures))
 
 receive-requires : tie.Need-receive-requires
 receive-requires c κs = search needs
@@ -25,7 +31,8 @@ pub receive-in-spec : {M : Type 1} → statement M
 receive-in-spec =
     tie.close
     (tie.spec
-    least-requires
+    number-at-requires
+    cast-room
     slice-relend-prefix-receive
     slice-aggregate-receive
     receive-requires

@@ -1,4 +1,5 @@
-use Rattle.sha256.specs.Sha256.{initial, hashFrom, bytesOf, sha256}
+use Rattle.sha256_bytes.specs.Bytes.{bytesOf}
+use Rattle.sha256.specs.Sha256.{initial, hashFrom, sha256}
 use Rattle.sha256.specs.Inner.{restFrom}
 use mathlib.Core.Path.{_≡_, refl}
 use Prim.Native.Nat.{_-_}

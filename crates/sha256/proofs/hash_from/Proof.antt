@@ -2,7 +2,7 @@ use mathlib.Core.Path.{_≡_, refl, _∙_}
 use Prim.Native.Nat.{_*_, _/_, _%_, _-_}
 use native.Mathlib.Omega.{arith}
 use lib.ListN.{length}
-use Rattle.sha256.specs.Inner.{countOf}
+use Rattle.sha256_pad.specs.Inner.{countOf}
 use Rattle.sha256.specs.Sha256.{hashFrom}
 use Rattle.sha256.proofs.Blocks.{rest-is}
 use borrow.Author.Needs.{needs}

@@ -5,7 +5,7 @@ use borrow.Author.Needs.{needs}
 use native.Mathlib.Omega.{arith}
 use lib.ListN.{length}
 use Rattle.text.proofs.Cuts.{cut-most, cut-rest}
-use Rattle.trial_moves.specs.Moves.{lentOf}
+use Rattle.trial_core.specs.Moves.{lentOf}
 use Rattle.trial_lines.proofs.Laws.{So, so-none, so-more, so-ends}
 use Rattle.trial_lines.proofs.answers.Statement.{statement}
 use Rattle.trial_lines.proofs.answers.Tie as tie

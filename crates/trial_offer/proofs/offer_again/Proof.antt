@@ -5,7 +5,7 @@ use Prim.Native.Nat.{ℕ, _+_, _-_, _≤_}
 use mathlib.Core.Path.{_≡_, ap, _∙_}
 use Rattle.trial_offer.proofs.Offers.{to-none, to-more}
 use Rattle.trial_offer.specs.Offers.{offeredTo}
-use Rattle.trial_text.specs.Line.{empty}
+use Rattle.trial_said.specs.Word.{empty}
 use Rattle.trial_core.specs.Trial.{Offering}
 use Rattle.trial_offer.proofs.offer_again.Statement.{statement}
 use Rattle.trial_offer.proofs.offer_again.Tie as tie

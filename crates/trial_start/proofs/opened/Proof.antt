@@ -1,7 +1,7 @@
 use Prim.Native.Nat.{ℕ}
 use mathlib.Core.List.{List}
 use mathlib.Core.Path.{ap, _∙_}
-use Rattle.client_invoke.specs.Invoke.{openStep}
+use Rattle.client_open.specs.Open.{openStep}
 use Rattle.replica.specs.Replica.{After}
 use borrow.Author.Needs.{needs}
 use Rattle.trial_start.proofs.opened.Statement.{statement}

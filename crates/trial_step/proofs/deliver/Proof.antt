@@ -1,5 +1,6 @@
-use Rattle.trial_step.proofs.Laws.{client-low, client-index, line-deliver}
-use Rattle.trial_moves.specs.Moves.{lentOf}
+use Rattle.trial_store.proofs.Laws.{client-low, client-index}
+use Rattle.trial_step.proofs.Laws.{line-deliver}
+use Rattle.trial_core.specs.Moves.{lentOf}
 use borrow.Author.Needs.{needs}
 use Rattle.trial_step.proofs.deliver.Statement.{statement}
 use Rattle.trial_step.proofs.deliver.Tie as tie

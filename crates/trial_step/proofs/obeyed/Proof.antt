@@ -1,9 +1,9 @@
 use mathlib.Core.Path.{sym, ap, _∙_}
 use Rattle.trial_step.proofs.Laws.{bad-invoke, bad-deliver, bad-other}
-use Rattle.trial_moves.specs.Moves.{lentOf}
+use Rattle.trial_core.specs.Moves.{lentOf}
 use Rattle.trial_core.specs.Trial.{commandStep}
-use Rattle.trial_text.specs.Line.{asked}
-use Rattle.trial_text.specs.declared.Command.{Command}
+use Rattle.trial_words.specs.Words.{asked}
+use Rattle.trial_words.specs.declared.Command.{Command}
 use borrow.Author.Needs.{needs}
 use Rattle.trial_step.proofs.obeyed.Statement.{statement}
 use Rattle.trial_step.proofs.obeyed.Tie as tie

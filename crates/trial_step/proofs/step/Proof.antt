@@ -1,6 +1,6 @@
 use mathlib.Core.Path.{_∙_}
 use Rattle.trial_step.proofs.Laws.{again-line}
-use Rattle.trial_text.specs.Line.{asked}
+use Rattle.trial_words.specs.Words.{asked}
 use borrow.Author.Needs.{needs}
 use Rattle.trial_step.proofs.step.Statement.{statement}
 use Rattle.trial_step.proofs.step.Tie as tie

@@ -1,41 +1,44 @@
 use borrow.Author.Needs.{needs}
-use Prim.Native.Nat.{_≤_, _-_}
+use Prim.Native.Nat.{_-_}
 use lib.ListN.{length}
 use Rattle.vectors.proofs.lines.Statement.{statement}
 use Rattle.vectors.proofs.lines.Tie as tie
 
 abbrev Inv-loop : tie.InvT-loop
-Inv-loop s at₀ at = at ≤ length s
+Inv-loop text at₀ at = Unit {0}
 
 abbrev μ-loop : tie.MeasureT-loop
-μ-loop s at₀ at = length s - at
+μ-loop text at₀ at = length text - at
 
 loop-holds : tie.Need-loop-holds Inv-loop μ-loop
-loop-holds c = search needs
+loop-holds c = tt
 
-find-requires : tie.Need-find-requires Inv-loop μ-loop
-find-requires c κs = search needs
+end-requires : tie.Need-end-requires Inv-loop μ-loop
+end-requires c κs = search needs
 
-sub-line : tie.Need-sub-line Inv-loop μ-loop
-sub-line c = search needs
+sub-one : tie.Need-sub-one Inv-loop μ-loop
+sub-one c = search needs
 
-part-line-start : tie.Need-part-line-start Inv-loop μ-loop
-part-line-start c = search needs
+part-one-start : tie.Need-part-one-start Inv-loop μ-loop
+part-one-start c = search needs
 
-part-line-end : tie.Need-part-line-end Inv-loop μ-loop
-part-line-end c = search needs
+part-one-end : tie.Need-part-one-end Inv-loop μ-loop
+part-one-end c = search needs
 
-line-requires : tie.Need-line-requires Inv-loop μ-loop
-line-requires c κs = search needs
+one-requires : tie.Need-one-requires Inv-loop μ-loop
+one-requires c κs = search needs
 
-after-requires : tie.Need-after-requires Inv-loop μ-loop
-after-requires c κs = search needs
+end-line-requires : tie.Need-end-line-requires Inv-loop μ-loop
+end-line-requires c κs = search needs
+
+add-at : tie.Need-add-at Inv-loop μ-loop
+add-at c = search needs
 
 loop-less : tie.Need-loop-less Inv-loop μ-loop
 loop-less c = search needs
 
 loop-again : tie.Need-loop-again Inv-loop μ-loop
-loop-again c = search needs
+loop-again c = tt
 
 returns : tie.Need-returns Inv-loop μ-loop
 returns c = search needs
@@ -47,12 +50,13 @@ lines-spec =
     Inv-loop
     μ-loop
     loop-holds
-    find-requires
-    sub-line
-    part-line-start
-    part-line-end
-    line-requires
-    after-requires
+    end-requires
+    sub-one
+    part-one-start
+    part-one-end
+    one-requires
+    end-line-requires
+    add-at
     loop-less
     loop-again
     returns)

@@ -1,30 +1,21 @@
+use mathlib.Core.Path.{_∙_}
 use Rattle.verify.specs.Verify.{commitTagOk}
 use borrow.Author.Needs.{needs}
 use Rattle.verify.proofs.commit_tag_ok.Statement.{statement}
 use Rattle.verify.proofs.commit_tag_ok.Tie as tie
 
-commit-tag-requires : tie.Need-commit-tag-requires
-commit-tag-requires c κs = search needs
+key-state-requires : tie.Need-key-state-requires
+key-state-requires c κs = search needs
 
-slice-aggregate-equal : tie.Need-slice-aggregate-equal
-slice-aggregate-equal c = search needs
+commit-tag-by-requires : tie.Need-commit-tag-by-requires
+commit-tag-by-requires c κs = search needs
 
-slice-aggregate-equal-2 : tie.Need-slice-aggregate-equal-2
-slice-aggregate-equal-2 c = search needs
-
-equal-requires : tie.Need-equal-requires
-equal-requires c κs = search needs
+tag-is-requires : tie.Need-tag-is-requires
+tag-is-requires c κs = search needs
 
 returns : tie.Need-returns
 unfolding commitTagOk
-returns c = cc
+returns c = c .tag-is .ensures ∙ rw (c .before .commit-tag-by .ensures _ (c .before .before .key-state .ensures))
 
 pub commit-tag-ok-spec : {M : Type 1} → statement M
-commit-tag-ok-spec =
-    tie.close
-    (tie.spec
-    commit-tag-requires
-    slice-aggregate-equal
-    slice-aggregate-equal-2
-    equal-requires
-    returns)
+commit-tag-ok-spec = tie.close (tie.spec key-state-requires commit-tag-by-requires tag-is-requires returns)

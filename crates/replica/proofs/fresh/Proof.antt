@@ -1,0 +1,12 @@
+use borrow.Author.Needs.{needs}
+use Rattle.replica.proofs.fresh.Statement.{statement}
+use Rattle.replica.proofs.fresh.Tie as tie
+
+no-op-requires : tie.Need-no-op-requires
+no-op-requires c κs = search needs
+
+returns : tie.Need-returns
+returns c = rw (c .no-op .ensures)
+
+pub fresh-spec : {M : Type 1} → statement M
+fresh-spec = tie.close (tie.spec no-op-requires returns)

@@ -1,0 +1,24 @@
+// The form and content of a message to the server: check 30 (document 01). Definitions: specs/Server.antt of server.
+ghost use mathlib.Core.Path.{_≡_};
+ghost use Rattle.server.specs.Server.{invokeOk, commitOk};
+
+// Whether the bytes are an invoke whose operation and author are allowed.
+pub fn invoke_ok(m: &[u8]) -> bool
+    ensures { λ r. ⌜ r ≡ invokeOk (now (m .entry)) ⌝ }
+{
+    let r = message::read_invoke(m);
+    let ok = r.ok;
+    let i = r.item;
+    ok & server::item_ok(i)
+}
+
+// Whether the bytes are a commit whose operation, author and status are allowed.
+pub fn commit_ok(m: &[u8]) -> bool
+    ensures { λ r. ⌜ r ≡ commitOk (now (m .entry)) ⌝ }
+{
+    let r = message::read_commit(m);
+    let ok = r.ok;
+    let k = r.commit;
+    let e = k.op;
+    ok & (operation::op_ok(e) & (1 <= k.author) & (k.author <= message::CLIENTS) & (k.status <= 1))
+}

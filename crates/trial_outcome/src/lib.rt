@@ -1,0 +1,105 @@
+// What an outcome of a client or of the server prints, and whether it is a success. Definitions: specs/Trial.antt of trial_core.
+ghost use mathlib.Core.Path.{_≡_};
+ghost use Rattle.trial_said.specs.Word.{word};
+ghost use Rattle.replica.specs.Outcome as O;
+ghost use Rattle.server.specs.Server as S;
+ghost use Rattle.trial_core.specs.Trial.{toldWord, servedWord, isSuccess, isPlaced, broadcastCount};
+use replica::Event;
+use replica::Outcome;
+use server::ServerEvent;
+use server::ServerOutcome;
+use trial_said::Said;
+
+fn done_said(done: Event) -> Said
+    ensures { λ r. ⌜ word r ≡ toldWord (O.eventTold done) ⌝ }
+{
+    match done {
+        Event::Opened => Said::Empty,
+        Event::Invoked(_) => Said::Empty,
+        Event::Responded { seq, response } => Said::Answer {
+            place: seq,
+            answer: response,
+        },
+        Event::Aborted { seq } => Said::Aside(seq),
+        Event::Confirmed { seq, status } => Said::Confirm { place: seq, status },
+    }
+}
+
+// What a client's outcome prints.
+pub fn told_said(outcome: Outcome) -> Said
+    ensures { λ r. ⌜ word r ≡ toldWord (O.told outcome) ⌝ }
+{
+    match outcome {
+        Outcome::Success(done) => done_said(done),
+        Outcome::Refused(why) => Said::No(replica::refusal_number(why)),
+        Outcome::Halted(why) => Said::Halt(replica::halt_number(why)),
+    }
+}
+
+// Whether a client's call is a success.
+pub fn is_success(outcome: Outcome) -> bool
+    ensures { λ r. ⌜ r ≡ isSuccess (O.told outcome) ⌝ }
+{
+    match outcome {
+        Outcome::Success(_) => true,
+        Outcome::Refused(_) => false,
+        Outcome::Halted(_) => false,
+    }
+}
+
+fn served_done(done: ServerEvent) -> Said
+    ensures { λ r. ⌜ word r ≡ servedWord (S.eventTold done) ⌝ }
+{
+    match done {
+        ServerEvent::Placed(p) => Said::Placed(p),
+        ServerEvent::Broadcast(_) => Said::Empty,
+    }
+}
+
+// What the server's outcome prints.
+pub fn served_said(outcome: ServerOutcome) -> Said
+    ensures { λ r. ⌜ word r ≡ servedWord (S.told outcome) ⌝ }
+{
+    match outcome {
+        ServerOutcome::Success(done) => served_done(done),
+        ServerOutcome::Refused(why) => Said::No(server::refusal_number(why)),
+    }
+}
+
+fn done_placed(done: ServerEvent) -> bool
+    ensures { λ r. ⌜ r ≡ isPlaced (S.eventTold done) ⌝ }
+{
+    match done {
+        ServerEvent::Placed(_) => true,
+        ServerEvent::Broadcast(_) => false,
+    }
+}
+
+// Whether the server placed an invoke.
+pub fn is_placed(outcome: ServerOutcome) -> bool
+    ensures { λ r. ⌜ r ≡ isPlaced (S.told outcome) ⌝ }
+{
+    match outcome {
+        ServerOutcome::Success(done) => done_placed(done),
+        ServerOutcome::Refused(_) => false,
+    }
+}
+
+fn done_count(done: ServerEvent) -> u32
+    ensures { λ r. ⌜ r ≡ broadcastCount (S.eventTold done) ⌝ }
+{
+    match done {
+        ServerEvent::Placed(_) => 0,
+        ServerEvent::Broadcast(n) => n,
+    }
+}
+
+// How many broadcasts the server wrote.
+pub fn broadcast_count(outcome: ServerOutcome) -> u32
+    ensures { λ r. ⌜ r ≡ broadcastCount (S.told outcome) ⌝ }
+{
+    match outcome {
+        ServerOutcome::Success(done) => done_count(done),
+        ServerOutcome::Refused(_) => 0,
+    }
+}

@@ -1,0 +1,81 @@
+// What a line of input gives, as a word with its data (document 01, "Cases"). Definitions: specs/Word.antt.
+ghost use mathlib.Core.Path.{_≡_};
+ghost use mathlib.Core.List.{_++_};
+ghost use Prim.Native.Nat.{_+_, _≤_};
+ghost use lib.ListN.{length};
+ghost use Rattle.slices.specs.Bytes.{put};
+ghost use Rattle.trial_said.specs.Word.{word, datum, wordBytes};
+
+// What a line of input gives.
+pub enum Said {
+    Placed(u32),
+    Answer { place: u32, answer: u16 },
+    Aside(u32),
+    Confirm { place: u32, status: u8 },
+    Empty,
+    No(u8),
+    Halt(u8),
+    Bad,
+    Full,
+}
+
+// ---- each function writes from `at` on, and answers the place after it
+
+pub fn put_bytes(out: &mut [u8], at: usize, s: &[u8]) -> usize
+    requires { ⌜ at + length (now s) ≤ length (now out) ⌝ }
+    ensures { λ r. ⌜ (r ≡ at + length (now (s .entry))) × (now (out .exit) ≡ put (now (out .entry)) at (now (s .entry))) ⌝ }
+{
+    slices::copy_to(out, at, s);
+    at + s.len()
+}
+
+// A number after a space.
+pub fn put_datum(out: &mut [u8], at: usize, n: u32) -> usize
+    requires { ⌜ at + 11 ≤ length (now out) ⌝ }
+    ensures { λ r. ⌜ (r ≡ at + length (datum n)) × (now (out .exit) ≡ put (now (out .entry)) at (datum n)) × (r ≤ at + 11) ⌝ }
+{
+    let i = put_bytes(out, at, b" ");
+    text::decimal(out, i, n as u64)
+}
+
+// A word with one number.
+fn put_one(out: &mut [u8], at: usize, s: &[u8], n: u32) -> usize
+    requires { ⌜ at + length (now s) + 11 ≤ length (now out) ⌝ }
+    ensures { λ r. ⌜ (r ≡ at + length (now (s .entry) ++ datum n))
+        × (now (out .exit) ≡ put (now (out .entry)) at (now (s .entry) ++ datum n))
+        × (r ≤ at + length (now (s .entry)) + 11) ⌝ }
+{
+    let i = put_bytes(out, at, s);
+    put_datum(out, i, n)
+}
+
+// A word with two numbers.
+fn put_two(out: &mut [u8], at: usize, s: &[u8], m: u32, n: u32) -> usize
+    requires { ⌜ at + length (now s) + 22 ≤ length (now out) ⌝ }
+    ensures { λ r. ⌜ (r ≡ at + length (now (s .entry) ++ datum m ++ datum n))
+        × (now (out .exit) ≡ put (now (out .entry)) at (now (s .entry) ++ datum m ++ datum n))
+        × (r ≤ at + length (now (s .entry)) + 22) ⌝ }
+{
+    let i = put_one(out, at, s, m);
+    put_datum(out, i, n)
+}
+
+// The word and its data. 29 bytes are enough.
+pub fn put_said(out: &mut [u8], at: usize, said: Said) -> usize
+    requires { ⌜ at + 29 ≤ length (now out) ⌝ }
+    ensures { λ r. ⌜ (r ≡ at + length (wordBytes (word said)))
+        × (now (out .exit) ≡ put (now (out .entry)) at (wordBytes (word said)))
+        × (r ≤ at + 29) ⌝ }
+{
+    match said {
+        Said::Placed(p) => put_one(out, at, b"placed", p),
+        Said::Answer { place, answer } => put_two(out, at, b"answer", place, answer as u32),
+        Said::Aside(p) => put_one(out, at, b"aside", p),
+        Said::Confirm { place, status } => put_two(out, at, b"confirm", place, status as u32),
+        Said::Empty => put_bytes(out, at, b"empty"),
+        Said::No(n) => put_one(out, at, b"no", n as u32),
+        Said::Halt(n) => put_one(out, at, b"halt", n as u32),
+        Said::Bad => put_bytes(out, at, b"bad"),
+        Said::Full => put_bytes(out, at, b"full"),
+    }
+}

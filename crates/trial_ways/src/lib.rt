@@ -1,0 +1,1 @@
+// What the lines between clients and server hold in a trial: laws, no code.
