@@ -29,8 +29,8 @@ pub fn receive(r: Replica, m: &[u8], out: &mut [u8]) -> Stepped
         × (now (out .exit) ≡ over (receiveStep r (now (m .entry)) (length (now (out .entry))) .wrote) (now (out .entry))) ⌝ }
 {
     if message::is_reply(m) {
-        client_reply::reply(r, m, out)
+        client_respond::reply(r, m, out)
     } else {
-        client_broadcast::broadcast(r, m)
+        client_confirm::broadcast(r, m)
     }
 }

@@ -19,7 +19,7 @@ fn invoke_check(r: Replica, kind: u8, cell: u8, amount: u8, room: usize) -> u8
 {
     let current = r.current;
     let count = r.count;
-    let q = replica::ready(r);
+    let q = replica_range::ready(r);
     let q = checks::also(q, replica::no_current(current), 4);
     let q = checks::also(q, operation::is_allowed(kind, cell, amount, 0), 5);
     let q = checks::also(q, count < operation::MAX_COUNT, 6);

@@ -1,25 +1,17 @@
-// Taking a reply. Definitions: specs/Reply.antt; its checks: client_reply_check.
+// The verdict on a reply: whether the current operation is aborted, and its response. Definitions of taking a reply: specs/Reply.antt.
 ghost use mathlib.Core.Path.{_≡_};
 ghost use Prim.Native.Nat.{_+_, _*_, _<_, _≤_};
 ghost use mathlib.Core.List.{_∷_, [], _++_};
-ghost use lib.ListN.{length, take, drop};
+ghost use lib.ListN.{length, take};
 ghost use Rattle.operation.specs.Operation.{maxPending};
-ghost use Rattle.message.specs.Layout.{clientCount, maxSeq, itemLength, replyHead, commitLength};
+ghost use Rattle.message.specs.Layout.{itemLength, replyHead};
 ghost use Rattle.message.specs.Message.{replyCount};
-ghost use Rattle.replica.specs.Outcome.{eventTold};
-ghost use Rattle.replica.specs.Replica.{afterOf, over};
-ghost use Rattle.client_reply.specs.Reply.{chainItem, chainTo, sortItem, sortTo, isAborted, lastResponse, saysOf, status, heldStatus, larger, repliedReplica, commitMessage, replyStep};
+ghost use Rattle.client_reply.specs.Reply.{sortItem, sortTo, isAborted, lastResponse};
 ghost use Rattle.client_reply.specs.Lists.{lists, Full};
-ghost use Rattle.key_table.specs.KeyTable.{StateOf};
-use hmac::Keyed;
-use message::Commit;
 use message::Item;
 use operation::Operation;
 use operation::Response;
-use replica::Event;
-use replica::Outcome;
 use replica::Replica;
-use replica::Stepped;
 
 // The two lists: the first `n` of `others`, the first `m` of `own`.
 struct Lists {
@@ -27,48 +19,6 @@ struct Lists {
     n: usize,
     own: [Operation; operation::MAX_PENDING],
     m: usize,
-}
-
-// The chain with the value of item `k` held.
-fn chain_item(
-    c: u32,
-    held: u32,
-    k: usize,
-    i: Item,
-    chain: [u8; replica::CHAIN_LENGTH],
-) -> [u8; replica::CHAIN_LENGTH]
-    requires { ⌜ (k < maxPending) × (c ≤ maxSeq) ⌝ }
-    ensures { λ r. ⌜ r ≡ chainItem c held k i chain ⌝ }
-{
-    if k < held as usize {
-        chain
-    } else {
-        let v = client_reply_check::item_value(c, k, i, chain);
-        let mut t = chain;
-        slices::copy_to(&mut t, (k + 1) * message::DIGEST_LENGTH, &v);
-        t
-    }
-}
-
-fn chain_to(
-    c: u32,
-    held: u32,
-    m: &[u8],
-    chain: [u8; replica::CHAIN_LENGTH],
-    n: usize,
-) -> [u8; replica::CHAIN_LENGTH]
-    requires { ⌜ (n ≤ maxPending) × (c ≤ maxSeq) × (replyHead + n * itemLength ≤ length (now m)) ⌝ }
-    ensures { λ r. ⌜ r ≡ chainTo c held (now (m .entry)) chain n ⌝ }
-{
-    let mut t = chain;
-    let mut k = 0;
-    while k < n {
-        let i = message::item_of(m, k);
-        let u = chain_item(c, held, k, i, t);
-        t = u;
-        k += 1;
-    }
-    t
 }
 
 fn no_lists() -> Lists
@@ -159,12 +109,12 @@ fn sort_to(c: u32, number: u8, statuses: [u8; operation::MAX_PENDING], m: &[u8],
 }
 
 // Whether the current operation is aborted, and its response if not.
-struct Verdict {
-    aborted: bool,
-    response: Response,
+pub struct Verdict {
+    pub aborted: bool,
+    pub response: Response,
 }
 
-fn decide(r: Replica, m: &[u8], n: usize) -> Verdict
+pub fn decide(r: Replica, m: &[u8], n: usize) -> Verdict
     requires { ⌜ (n ≡ replyCount (now m)) × (1 ≤ n) × (n ≤ maxPending) × (replyHead + n * itemLength ≤ length (now m)) ⌝ }
     ensures { λ v. ⌜ (v .aborted ≡ isAborted r (now (m .entry))) × (v .response ≡ lastResponse r (now (m .entry))) ⌝ }
 {
@@ -179,103 +129,5 @@ fn decide(r: Replica, m: &[u8], n: usize) -> Verdict
     Verdict {
         aborted: conflict::conflict(cells, others, t.n, own, t.m),
         response: operation::response_on(current, operation::run_all(earlier, l.m, cells)),
-    }
-}
-
-fn held_status(aborted: bool) -> u8
-    ensures { λ r. ⌜ r ≡ heldStatus «aborted» ⌝ }
-{
-    if aborted { 2 } else { 1 }
-}
-
-fn status_of(aborted: bool) -> u8
-    ensures { λ r. ⌜ r ≡ status «aborted» ⌝ }
-{
-    if aborted { 0 } else { 1 }
-}
-
-fn larger_of(a: u32, b: u32) -> u32
-    ensures { λ r. ⌜ r ≡ larger a b ⌝ }
-{
-    if a < b { b } else { a }
-}
-
-fn replied_replica(r: Replica, chain: [u8; replica::CHAIN_LENGTH], n: u8, aborted: bool) -> Replica
-    requires { ⌜ (1 ≤ n) × (n ≤ maxPending) ⌝ }
-    ensures { λ q. ⌜ q ≡ repliedReplica r chain n «aborted» ⌝ }
-{
-    let k = n as usize - 1;
-    let none = operation::no_op();
-    let mut b = r;
-    b.current = none;
-    b.held = larger_of(r.held, n as u32);
-    b.chain = chain;
-    b.statuses[k] = held_status(aborted);
-    b
-}
-
-fn says(v: Verdict, seq: u32) -> Event
-    ensures { λ r. ⌜ eventTold r ≡ saysOf (v .aborted) (v .response) seq ⌝ }
-{
-    if v.aborted {
-        Event::Aborted { seq }
-    } else {
-        Event::Responded {
-            seq,
-            response: v.response,
-        }
-    }
-}
-
-// Writes the commit; the client's tags start from `own`.
-fn write_message(
-    r: Replica,
-    own: Keyed,
-    chain: [u8; replica::CHAIN_LENGTH],
-    n: u8,
-    aborted: bool,
-    out: &mut [u8],
-)
-    requires { ⌜ (n ≤ maxPending) × (r .confirmed ≤ maxSeq) × StateOf (r .keys) (r .number) own × (commitLength ≤ length (now out)) ⌝ }
-    ensures { λ _. ⌜ now (out .exit) ≡ commitMessage r chain n «aborted» ++ drop commitLength (now (out .entry)) ⌝ }
-{
-    let current = r.current;
-    let seq = r.confirmed + n as u32;
-    let status = status_of(aborted);
-    let digest = replica::value_at(r.confirmed, n as usize, chain);
-    let tag = verify::commit_tag_by(own, current, r.number, seq, digest, status);
-    message_write::write_commit(
-        out,
-        Commit {
-            op: current,
-            author: r.number,
-            seq,
-            digest,
-            status,
-            tag,
-        },
-    );
-}
-
-// Takes a reply (document 01: `RE`).
-pub fn reply(r: Replica, m: &[u8], out: &mut [u8]) -> Stepped
-    ensures { λ q. ⌜ (afterOf q ≡ replyStep r (now (m .entry)) (length (now (out .entry))) .after)
-        × (now (out .exit) ≡ over (replyStep r (now (m .entry)) (length (now (out .entry))) .wrote) (now (out .entry))) ⌝ }
-{
-    let q = client_reply_check::reply_check(r, m, out.len());
-    let no = q.no;
-    if no != 0 {
-        return replica::stopped(r, no);
-    }
-    let n = m[message::COUNT_OFFSET];
-    let old = r.chain;
-    let v = decide(r, m, n as usize);
-    let chain = chain_to(r.confirmed, r.held, m, old, n as usize);
-    let own = q.own;
-    write_message(r, own, chain, n, v.aborted, out);
-    let after = replied_replica(r, chain, n, v.aborted);
-    Stepped {
-        replica: after,
-        outcome: Outcome::Success(says(v, r.confirmed + n as u32)),
     }
 }

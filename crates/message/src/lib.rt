@@ -1,13 +1,10 @@
 // The four messages: their layout, the strings under digest and tag, and readers of any bytes. Definitions: specs/Layout.antt, specs/Message.antt.
 use operation::Operation;
 ghost use mathlib.Core.Path.{_≡_};
-ghost use mathlib.Core.List.{[], _∷_, _++_};
 ghost use Prim.Native.Nat.{_+_, _*_, _≤_};
 ghost use lib.ListN.{length};
-ghost use Rattle.slices.specs.Bytes.{bigEndian};
-ghost use Rattle.operation.specs.Operation.{opBytes};
 ghost use Rattle.message.specs.Layout.{itemLength, replyHead, commitLength};
-ghost use Rattle.message.specs.Message.{invokeString, commitBody, commitString, chainString, marked, isInvoke, isReply, isCommit, isBroadcast, itemAt, replyItem, commitOf};
+ghost use Rattle.message.specs.Message.{marked, isInvoke, isReply, isCommit, isBroadcast, itemAt, replyItem, commitOf};
 ghost use Rattle.message.specs.Readers.{noItem, noCommit, readInvoke, readCommit};
 
 // Clients are 1 to `CLIENTS`, sequence numbers 1 to `MAX_SEQ`.
@@ -90,75 +87,6 @@ pub struct ReadItem {
 pub struct ReadCommit {
     pub ok: bool,
     pub commit: Commit,
-}
-
-// The 11 bytes of mark, operation and author.
-fn head(a: u8, b: u8, e: Operation, author: u8) -> [u8; INVOKE_STRING]
-    ensures { λ r. ⌜ r ≡ a ∷ b ∷ opBytes e ++ (author ∷ []) ⌝ }
-{
-    let t = operation::op_bytes(e);
-    [a, b, t[0], t[1], t[2], t[3], t[4], t[5], t[6], t[7], author]
-}
-
-// The 48 bytes of a commit or broadcast before the tag.
-pub fn front(
-    a: u8,
-    b: u8,
-    e: Operation,
-    author: u8,
-    seq: u32,
-    digest: [u8; DIGEST_LENGTH],
-    status: u8,
-) -> [u8; TAG_OFFSET]
-    ensures { λ r. ⌜ r ≡ a ∷ b ∷ commitBody e author seq digest status ⌝ }
-{
-    let mut t = [0u8; TAG_OFFSET];
-    let h = head(a, b, e, author);
-    let w = slices::word_bytes(seq);
-    slices::copy_to(&mut t, 0, &h);
-    slices::copy_to(&mut t, SEQ_OFFSET, &w);
-    slices::copy_to(&mut t, DIGEST_OFFSET, &digest);
-    slices::copy_to(&mut t, STATUS_OFFSET, &[status]);
-    t
-}
-
-// The string under an invoke's tag.
-pub fn invoke_string(e: Operation, author: u8) -> [u8; INVOKE_STRING]
-    ensures { λ r. ⌜ r ≡ invokeString e author ⌝ }
-{
-    head(73, 78, e, author)
-}
-
-// The string under a commit's tag.
-pub fn commit_string(
-    e: Operation,
-    author: u8,
-    seq: u32,
-    digest: [u8; DIGEST_LENGTH],
-    status: u8,
-) -> [u8; TAG_OFFSET]
-    ensures { λ r. ⌜ r ≡ commitString e author seq digest status ⌝ }
-{
-    front(67, 79, e, author, seq, digest, status)
-}
-
-// The string under the hash chain's value at `seq`; `value` is the one before it.
-pub fn chain_string(
-    value: [u8; DIGEST_LENGTH],
-    e: Operation,
-    seq: u32,
-    author: u8,
-) -> [u8; LINK_STRING]
-    ensures { λ r. ⌜ r ≡ chainString value e seq author ⌝ }
-{
-    let mut t = [0u8; LINK_STRING];
-    let o = operation::op_bytes(e);
-    let w = slices::word_bytes(seq);
-    slices::copy_to(&mut t, 0, &value);
-    slices::copy_to(&mut t, LINK_OP, &o);
-    slices::copy_to(&mut t, LINK_SEQ, &w);
-    slices::copy_to(&mut t, LINK_AUTHOR, &[author]);
-    t
 }
 
 // Whether the bytes begin with the mark `a`, `b`.

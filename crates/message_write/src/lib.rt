@@ -27,7 +27,7 @@ fn write_marked(out: &mut [u8], at: usize, a: u8, b: u8, k: Commit)
 {
     let digest = k.digest;
     let tag = k.tag;
-    let f = message::front(a, b, k.op, k.author, k.seq, digest, k.status);
+    let f = message_strings::front(a, b, k.op, k.author, k.seq, digest, k.status);
     slices::copy_to(out, at, &f);
     slices::copy_to(out, at + message::TAG_OFFSET, &tag);
 }

@@ -3,11 +3,10 @@
 ghost use mathlib.Core.Path.{_≡_};
 ghost use Prim.Native.Nat.{_≤_};
 ghost use mathlib.Core.Bool.{true};
-ghost use Rattle.checks.specs.Checks.{firstNo};
 ghost use Rattle.replica.specs.Outcome.{refusalNo, haltNo, isHalt, isStop};
 ghost use Rattle.operation.specs.Operation.{maxPending};
 ghost use Rattle.replica.specs.Places.{valueAt};
-ghost use Rattle.replica.specs.Replica.{freshReplica, noCurrent, numbersOk, arraysOk, inRange, readyChecks, afterOf, refuse, halt, stop};
+ghost use Rattle.replica.specs.Replica.{freshReplica, noCurrent, afterOf, refuse, halt, stop};
 use operation::Cells;
 use operation::Operation;
 use operation::Response;
@@ -88,39 +87,6 @@ pub fn no_current(e: Operation) -> bool
     ensures { λ r. ⌜ r ≡ noCurrent e ⌝ }
 {
     (e.count == 0) & (e.kind == 0) & (e.cell == 0) & (e.amount == 0) & (e.last == 0)
-}
-
-fn numbers_ok(r: Replica) -> bool
-    ensures { λ q. ⌜ q ≡ numbersOk r ⌝ }
-{
-    let last = r.confirmed as u64 + r.held as u64;
-    (1 <= r.number)
-        & (r.number <= message::CLIENTS)
-        & (r.count <= operation::MAX_COUNT)
-        & (r.confirmed <= message::MAX_SEQ)
-        & (r.held as usize <= operation::MAX_PENDING)
-        & (last <= message::MAX_SEQ as u64)
-        & ((r.halt == 0) | is_halt(r.halt))
-}
-
-fn arrays_ok(r: Replica) -> bool
-    ensures { λ q. ⌜ q ≡ arraysOk r ⌝ }
-{
-    let statuses = r.statuses;
-    let chain = r.chain;
-    let held = r.held as usize;
-    let s = slices::each_most(&statuses, 2);
-    let t = slices::zero_from(&statuses, held);
-    let u = slices::zero_from(&chain, (held + 1) * message::DIGEST_LENGTH);
-    s & t & u
-}
-
-// Check 8: whether each field is in range.
-pub fn in_range(r: Replica) -> bool
-    ensures { λ q. ⌜ q ≡ inRange r ⌝ }
-{
-    let current = r.current;
-    numbers_ok(r) & (no_current(current) | operation::op_ok(current)) & arrays_ok(r)
 }
 
 // A fresh state.
@@ -215,7 +181,7 @@ fn halt_of(number: u8) -> Halt
 }
 
 // Whether a number is a halt's.
-fn is_halt(number: u8) -> bool
+pub fn is_halt(number: u8) -> bool
     ensures { λ r. ⌜ r ≡ isHalt number ⌝ }
 {
     (20 <= number) & (number <= 25)
@@ -244,12 +210,4 @@ pub fn stopped(replica: Replica, number: u8) -> Stepped
     } else {
         refused(replica, refusal_of(number))
     }
-}
-
-// Checks 8 and 3, which every call on a replica asks first.
-pub fn ready(r: Replica) -> u8
-    ensures { λ q. ⌜ q ≡ firstNo 0 (readyChecks r) ⌝ }
-{
-    let q = checks::also(0, in_range(r), 8);
-    checks::also(q, r.halt == 0, 3)
 }

@@ -24,7 +24,7 @@ pub fn key_state(keys: [u8; message::KEYS_LENGTH], client: u8) -> Keyed
 fn invoke_tag_by(s: Keyed, e: Operation, author: u8) -> [u8; message::TAG_LENGTH]
     ensures { λ r. ⌜ ((keys : List ℕ) → s ≡ keyedOf (keyOf keys author) → r ≡ invokeTag keys e author) ⌝ }
 {
-    let m = message::invoke_string(e, author);
+    let m = message_strings::invoke_string(e, author);
     hmac::tag_by(s, &m)
 }
 
@@ -51,7 +51,7 @@ pub fn commit_tag_by(
 ) -> [u8; message::TAG_LENGTH]
     ensures { λ r. ⌜ ((keys : List ℕ) → s ≡ keyedOf (keyOf keys author) → r ≡ commitTag keys e author seq digest status) ⌝ }
 {
-    let m = message::commit_string(e, author, seq, digest, status);
+    let m = message_strings::commit_string(e, author, seq, digest, status);
     hmac::tag_by(s, &m)
 }
 
@@ -92,6 +92,6 @@ pub fn link_value(
 ) -> [u8; message::DIGEST_LENGTH]
     ensures { λ r. ⌜ r ≡ linkValue value e seq author ⌝ }
 {
-    let s = message::chain_string(value, e, seq, author);
+    let s = message_strings::chain_string(value, e, seq, author);
     sha256::digest_of(&s)
 }

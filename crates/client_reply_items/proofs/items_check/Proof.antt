@@ -1,0 +1,77 @@
+use Rattle.client_reply_check.specs.ReplyChecks.{itemChecks, itemsChecks}
+use mathlib.Core.Path.{_≡_, refl, ap, _∙_}
+use native.Mathlib.Omega.{arith}
+use Prim.Native.Nat.{_-_, _≤_}
+use Rattle.checks.specs.Checks.{firstNo}
+use Rattle.client_reply_check.proofs.Laws.{items-more}
+use Rattle.message.specs.declared.Item.{Item}
+use Rattle.key_table.specs.KeyTable.{Right}
+use borrow.Author.Needs.{needs}
+use Rattle.client_reply_items.proofs.items_check.Statement.{statement}
+use Rattle.client_reply_items.proofs.items_check.Tie as tie
+
+abbrev Inv-loop : tie.InvT-loop
+Inv-loop r m n keys t₀ q₀ k₀ t q k = (q ≡ firstNo 0 (itemsChecks r m k)) × (k ≤ n) × Right (r .keys) t
+
+abbrev μ-loop : tie.MeasureT-loop
+μ-loop r m n keys t₀ q₀ k₀ t q k = n - k
+
+none-requires : tie.Need-none-requires Inv-loop μ-loop
+none-requires c κs = search needs
+
+loop-holds : tie.Need-loop-holds Inv-loop μ-loop
+unfolding itemsChecks
+loop-holds c = (refl, search needs, c .none .ensures _)
+
+item-of-requires : tie.Need-item-of-requires Inv-loop μ-loop
+item-of-requires c κs = search needs
+
+state-of-requires : tie.Need-state-of-requires Inv-loop μ-loop
+state-of-requires c κs = c .before .before .loop .inv .2
+
+with-state-requires : tie.Need-with-state-requires Inv-loop μ-loop
+with-state-requires c κs = search needs
+
+item-also-requires : tie.Need-item-also-requires Inv-loop μ-loop
+item-also-requires c κs = (search needs, search needs, c .before .state-of .ensures)
+
+add-k : tie.Need-add-k Inv-loop μ-loop
+add-k c = search needs
+
+loop-less : tie.Need-loop-less Inv-loop μ-loop
+loop-less c = search needs
+
+loop-again : tie.Need-loop-again Inv-loop μ-loop
+loop-again c =
+    let p = c .before .before .before .before .before in
+    let a = p .before .before .before .before .args in
+    let l = p .loop in
+    let e = ap (λ (i : Item). firstNo (l .q) (itemChecks (a .r) (a .n) (l .k) i)) (c .before .before .before .item-of .ensures) in
+    (c .item-also .ensures ∙ e ∙ rw (l .inv .0) (items-more (a .r) (a .m .now) (l .k)), search needs, c .before .with-state .ensures _ (l .inv .2) (c .before .before .state-of .ensures))
+
+state-of-requires-2 : tie.Need-state-of-requires-2 Inv-loop μ-loop
+state-of-requires-2 c κs = c .before .loop .inv .2
+
+returns : tie.Need-returns Inv-loop μ-loop
+returns c =
+    let p = c .before .before in
+    let e : p .loop .k ≡ p .before .before .before .before .args .n = omega arith in
+    (p .loop .inv .0 ∙ rw e, c .state-of2 .ensures)
+
+pub items-check-spec : {M : Type 1} → statement M
+items-check-spec =
+    tie.close
+    (tie.spec
+    Inv-loop
+    μ-loop
+    none-requires
+    loop-holds
+    item-of-requires
+    state-of-requires
+    with-state-requires
+    item-also-requires
+    add-k
+    loop-less
+    loop-again
+    state-of-requires-2
+    returns)
