@@ -5,7 +5,7 @@ ghost use Prim.Native.Nat.{_+_, _≤_, _<_};
 ghost use lib.ListN.{length, take};
 ghost use Rattle.sha256_core.specs.Round.{kTable};
 ghost use Rattle.sha256_block.specs.Block.{wordsAt, nextWord, schedule, rounds, compressOf};
-ghost use Rattle.sha256_block.specs.Inner.{roundsFrom};
+ghost use Rattle.sha256_block.specs.Inner.{addWord, addWords, roundsFrom};
 
 // Word t of the schedule, from the words before it.
 fn next_word(w: &[u32; 64], t: usize) -> u32
@@ -31,6 +31,30 @@ fn load(m: &[u8], at: usize) -> [u32; 64]
     w
 }
 
+// Word t of the schedule, put in its place.
+fn add_word(w: &mut [u32; 64], t: usize)
+    requires { ⌜ (16 ≤ t) × (t < 64) ⌝ }
+    ensures { λ _. ⌜ now (w .exit) ≡ addWord t (now (w .entry)) ⌝ }
+{
+    let x = next_word(w, t);
+    w[t] = x;
+}
+
+// Eight words of the schedule, from word t on.
+fn eight_words(w: &mut [u32; 64], t: usize)
+    requires { ⌜ (16 ≤ t) × (t + 8 ≤ 64) ⌝ }
+    ensures { λ _. ⌜ now (w .exit) ≡ addWords 8 t (now (w .entry)) ⌝ }
+{
+    add_word(w, t);
+    add_word(w, t + 1);
+    add_word(w, t + 2);
+    add_word(w, t + 3);
+    add_word(w, t + 4);
+    add_word(w, t + 5);
+    add_word(w, t + 6);
+    add_word(w, t + 7);
+}
+
 // The schedule of the block at `at`.
 fn expand(m: &[u8], at: usize) -> [u32; 64]
     requires { ⌜ at + 64 ≤ length (now m) ⌝ }
@@ -38,9 +62,8 @@ fn expand(m: &[u8], at: usize) -> [u32; 64]
 {
     let mut w = load(m, at);
     let mut n: usize = 0;
-    while n < 48 {
-        let x = next_word(&w, 16 + n);
-        w[16 + n] = x;
+    while n < 6 {
+        eight_words(&mut w, 16 + 8 * n);
         n += 1;
     }
     w

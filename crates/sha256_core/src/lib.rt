@@ -15,10 +15,11 @@ pub struct State {
     pub h: u32,
 }
 
+// Where x has a one, the bit of y; elsewhere that of z.
 pub fn ch(x: u32, y: u32, z: u32) -> u32
     ensures { λ r. ⌜ r ≡ Ch x y z ⌝ }
 {
-    (x & y) ^ (!x & z)
+    z ^ (x & (y ^ z))
 }
 
 pub fn maj(x: u32, y: u32, z: u32) -> u32

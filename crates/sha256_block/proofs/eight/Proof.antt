@@ -1,4 +1,5 @@
-use Rattle.sha256_block.proofs.Rounds.{eight-is}
+use Rattle.sha256_core.specs.Round.{roundAt}
+use Rattle.sha256_block.proofs.Steps.{eight-is}
 use borrow.Author.Needs.{needs}
 use Rattle.sha256_block.proofs.eight.Statement.{statement}
 use Rattle.sha256_block.proofs.eight.Tie as tie
@@ -52,7 +53,7 @@ returns : tie.Need-returns
 returns c =
     let b7 = c .before .before .before .before .before .before .before in
     let a = b7 .before .args in
-    eight-is (a .w .now) (a .t) (a .s) (b7 .round .ensures) (c .before .before .before .before .before .before .round2 .ensures) (c .before .before .before .before .before .round3 .ensures) (c .before .before .before .before .round4 .ensures) (c .before .before .before .round5 .ensures) (c .before .before .round6 .ensures) (c .before .round7 .ensures) (c .round8 .ensures)
+    eight-is (λ i. roundAt i (a .w .now)) (a .t) (a .s) (b7 .round .ensures) (c .before .before .before .before .before .before .round2 .ensures) (c .before .before .before .before .before .round3 .ensures) (c .before .before .before .before .round4 .ensures) (c .before .before .before .round5 .ensures) (c .before .before .round6 .ensures) (c .before .round7 .ensures) (c .round8 .ensures)
 
 pub eight-spec : {M : Type 1} → statement M
 eight-spec =
