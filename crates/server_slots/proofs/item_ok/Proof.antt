@@ -18,7 +18,7 @@ op-ok-requires c κs = search needs
 
 returns : tie.Need-returns
 unfolding itemOk itemAt
-returns c = cc
+returns c = rw (c .op-ok .ensures, c .before .before .read-op .ensures)
 
 pub item-ok-spec : {M : Type 1} → statement M
 item-ok-spec = tie.close (tie.spec read-op-requires add-author shared-slice-read-author op-ok-requires returns)
