@@ -30,7 +30,7 @@ pub fn in_range(s: Server) -> bool
         let statuses = s.statuses;
         let c = counts_ok(&counts);
         let u = slices::each_most(&statuses, 2);
-        let o = server_slots::slots_ok(s, n);
+        let o = server_slots::slots_ok(&s.items, &s.statuses, &s.digests, &s.tags, n);
         let z = server_unused::unused_ok(s, n);
         (s.passed <= s.placed) & (s.placed <= message::MAX_SEQ) & c & u & o & z
     } else {

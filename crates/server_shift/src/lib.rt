@@ -44,7 +44,7 @@ fn shifted_parts(parts: [u8; server::DIGESTS_LENGTH], n: usize) -> [u8; server::
 }
 
 // The state with the first `n` slots passed on.
-pub fn passed_server(s: Server, n: usize) -> Server
+fn shifted_server(s: Server, n: usize) -> Server
     requires { ⌜ (s .passed ≤ maxSeq) × (n ≤ maxPending) ⌝ }
     ensures { λ r. ⌜ r ≡ passedServer s n ⌝ }
 {
@@ -64,4 +64,12 @@ pub fn passed_server(s: Server, n: usize) -> Server
     t.digests = digests;
     t.tags = tags;
     t
+}
+
+// The same; with none passed on, the state as it is, without copies.
+pub fn passed_server(s: Server, n: usize) -> Server
+    requires { ⌜ (s .passed ≤ maxSeq) × (n ≤ maxPending) ⌝ }
+    ensures { λ r. ⌜ r ≡ passedServer s n ⌝ }
+{
+    if n == 0 { s } else { shifted_server(s, n) }
 }

@@ -1,29 +1,20 @@
-use Rattle.server.specs.Server.{passedServer}
+use mathlib.Core.Path.{_≡_, sym}
+use native.Mathlib.Omega.{arith}
 use borrow.Author.Needs.{needs}
+use Rattle.server_shift.proofs.Laws.{none-passed}
 use Rattle.server_shift.proofs.passed_server.Statement.{statement}
 use Rattle.server_shift.proofs.passed_server.Tie as tie
 
-cast-passed : tie.Need-cast-passed
-cast-passed c = search needs
-
-add-passed : tie.Need-add-passed
-add-passed c = search needs
-
-shifted-items-requires : tie.Need-shifted-items-requires
-shifted-items-requires c κs = search needs
-
-shifted-statuses-requires : tie.Need-shifted-statuses-requires
-shifted-statuses-requires c κs = search needs
-
-shifted-parts-requires : tie.Need-shifted-parts-requires
-shifted-parts-requires c κs = search needs
-
-shifted-parts-requires-2 : tie.Need-shifted-parts-requires-2
-shifted-parts-requires-2 c κs = search needs
+shifted-server-requires : tie.Need-shifted-server-requires
+shifted-server-requires c κs = search needs
 
 returns : tie.Need-returns
-unfolding passedServer
-returns c = rw (c .shifted-parts2 .ensures, c .before .shifted-parts .ensures, c .before .before .shifted-statuses .ensures, c .before .before .before .shifted-items .ensures)
+returns c =
+    let e : c .before .args .n ≡ 0 = omega arith in
+    sym (none-passed (c .before .args .s) (c .before .args .n) e)
+
+returns-2 : tie.Need-returns-2
+returns-2 c = c .shifted-server .ensures
 
 pub passed-server-spec : {M : Type 1} → statement M
-passed-server-spec = tie.close (tie.spec cast-passed add-passed shifted-items-requires shifted-statuses-requires shifted-parts-requires shifted-parts-requires-2 returns)
+passed-server-spec = tie.close (tie.spec shifted-server-requires returns returns-2)

@@ -1,21 +1,23 @@
-use Rattle.server.specs.Server.{slotsOk}
 use Prim.Native.Nat.{_≤_, _-_}
 use mathlib.Core.Path.{_≡_, refl, _∙_, ap}
 use native.Mathlib.Omega.{arith}
-use Rattle.server.proofs.Laws.{slots-more}
 use borrow.Author.Needs.{needs}
+use Rattle.server.specs.declared.Server.{Server}
+use Rattle.server.specs.Server.{slotsOk}
+use Rattle.server.proofs.Laws.{slots-more}
+use Rattle.server_slots.specs.Slots.{withSlots}
 use Rattle.server_slots.proofs.slots_ok.Statement.{statement}
 use Rattle.server_slots.proofs.slots_ok.Tie as tie
 
 abbrev Inv-loop : tie.InvT-loop
-Inv-loop s n ok₀ k₀ ok k = (ok ≡ slotsOk s k) × (k ≤ n)
+Inv-loop items statuses digests tags n ok₀ k₀ ok k = ((s : Server) → ok ≡ slotsOk (withSlots s items statuses digests tags) k) × (k ≤ n)
 
 abbrev μ-loop : tie.MeasureT-loop
-μ-loop s n ok₀ k₀ ok k = n - k
+μ-loop items statuses digests tags n ok₀ k₀ ok k = n - k
 
 loop-holds : tie.Need-loop-holds Inv-loop μ-loop
 unfolding slotsOk
-loop-holds c = (refl, search needs)
+loop-holds c = (λ s. refl, search needs)
 
 slot-ok-requires : tie.Need-slot-ok-requires Inv-loop μ-loop
 slot-ok-requires c κs = search needs
@@ -27,10 +29,12 @@ loop-less : tie.Need-loop-less Inv-loop μ-loop
 loop-less c = search needs
 
 loop-again : tie.Need-loop-again Inv-loop μ-loop
-loop-again c = (rw (c .slot-ok .ensures, c .before .before .loop .inv .0, slots-more), search needs)
+loop-again c = (λ s. rw (c .slot-ok .ensures s, c .before .before .loop .inv .0 s, slots-more), search needs)
 
 returns : tie.Need-returns Inv-loop μ-loop
-returns c = let e : c .before .loop .k ≡ c .before .before .args .n = omega arith in c .before .loop .inv .0 ∙ ap (slotsOk (c .before .before .args .s)) e
+returns c s =
+    let e : c .before .loop .k ≡ c .before .before .args .n = omega arith in
+    rw (c .before .loop .inv .0 s, e)
 
 pub slots-ok-spec : {M : Type 1} → statement M
 slots-ok-spec = tie.close (tie.spec Inv-loop μ-loop loop-holds slot-ok-requires add-k loop-less loop-again returns)

@@ -1,0 +1,24 @@
+use borrow.Author.Needs.{needs}
+use Rattle.message.specs.Message.{itemAt}
+use Rattle.server.specs.Server.{itemOk}
+use Rattle.server_slots.proofs.item_ok.Statement.{statement}
+use Rattle.server_slots.proofs.item_ok.Tie as tie
+
+read-op-requires : tie.Need-read-op-requires
+read-op-requires c κs = search needs
+
+add-author : tie.Need-add-author
+add-author c = search needs
+
+shared-slice-read-author : tie.Need-shared-slice-read-author
+shared-slice-read-author c = search needs
+
+op-ok-requires : tie.Need-op-ok-requires
+op-ok-requires c κs = search needs
+
+returns : tie.Need-returns
+unfolding itemOk itemAt
+returns c = rw (c .op-ok .ensures, c .before .before .read-op .ensures)
+
+pub item-ok-spec : {M : Type 1} → statement M
+item-ok-spec = tie.close (tie.spec read-op-requires add-author shared-slice-read-author op-ok-requires returns)
