@@ -8,7 +8,7 @@ op-ok-requires c κs = search needs
 
 returns : tie.Need-returns
 unfolding commitOk
-returns c = cc
+returns c = rw (c .before .before .before .op-ok .ensures)
 
 pub commit-ok-spec : {M : Type 1} → statement M
 commit-ok-spec = tie.close (tie.spec op-ok-requires returns)

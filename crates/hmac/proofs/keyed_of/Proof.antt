@@ -26,7 +26,7 @@ after-block-requires-2 c κs = search needs
 
 returns : tie.Need-returns
 unfolding keyedOf
-returns c = cc
+returns c = rw (c .after-block2 .ensures, c .before .before .xor-each2 .ensures, c .before .before .before .before .after-block .ensures, c .before .before .before .before .before .before .xor-each .ensures, c .before .before .before .before .before .before .before .before .block-key .ensures)
 
 pub keyed-of-spec : {M : Type 1} → statement M
 keyed-of-spec =

@@ -14,7 +14,7 @@ part-requires c κs = search needs
 
 returns : tie.Need-returns
 unfolding digestAt
-returns c = cc
+returns c = rw (c .part .ensures)
 
 pub value-at-spec : {M : Type 1} → statement M
 value-at-spec = tie.close (tie.spec slice-aggregate-part mul-part part-requires returns)

@@ -32,7 +32,7 @@ zero-from-requires-2 c κs = search needs
 
 returns : tie.Need-returns
 unfolding arraysOk
-returns c = cc
+returns c = rw (c .zero-from2 .ensures, c .before .before .zero-from .ensures, c .before .before .before .before .each-most .ensures)
 
 pub arrays-ok-spec : {M : Type 1} → statement M
 arrays-ok-spec =

@@ -17,7 +17,7 @@ arrays-ok-requires c κs = search needs
 
 returns : tie.Need-returns
 unfolding inRange
-returns c = cc
+returns c = rw (c .arrays-ok .ensures, c .before .op-ok .ensures, c .before .before .no-current .ensures, c .before .before .before .numbers-ok .ensures)
 
 pub in-range-spec : {M : Type 1} → statement M
 in-range-spec =

@@ -56,7 +56,7 @@ wrapping-add-u32-requires-3 c κs = search needs
 
 returns : tie.Need-returns
 unfolding nextWord
-returns c = cc
+returns c = rw (c .wrapping-add-u323 .ensures, c .before .before .wrapping-add-u322 .ensures, c .before .before .before .small0 .ensures, c .before .before .before .before .before .wrapping-add-u32 .ensures, c .before .before .before .before .before .before .before .small1 .ensures)
 
 pub next-word-spec : {M : Type 1} → statement M
 next-word-spec =

@@ -50,7 +50,7 @@ wrapping-add-u32-requires-7 c κs = search needs
 
 returns : tie.Need-returns
 unfolding roundAt roundOf
-returns c = cc
+returns c = rw (c .wrapping-add-u327 .ensures, c .before .wrapping-add-u326 .ensures, c .before .before .wrapping-add-u325 .ensures, c .before .before .before .maj .ensures, c .before .before .before .before .big0 .ensures, c .before .before .before .before .before .wrapping-add-u324 .ensures, c .before .before .before .before .before .before .before .wrapping-add-u323 .ensures, c .before .before .before .before .before .before .before .before .before .wrapping-add-u322 .ensures, c .before .before .before .before .before .before .before .before .before .before .ch .ensures, c .before .before .before .before .before .before .before .before .before .before .before .wrapping-add-u32 .ensures, c .before .before .before .before .before .before .before .before .before .before .before .before .big1 .ensures, c .before .before .before .before .before .before .before .before .before .before .before .before .before .pre .1)
 
 pub round-spec : {M : Type 1} → statement M
 round-spec =
