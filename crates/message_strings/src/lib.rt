@@ -2,7 +2,7 @@
 ghost use mathlib.Core.Path.{_≡_};
 ghost use mathlib.Core.List.{[], _∷_, _++_};
 ghost use Rattle.operation.specs.Operation.{opBytes};
-ghost use Rattle.message.specs.Message.{invokeString, commitBody, commitString, chainString};
+ghost use Rattle.message.specs.Message.{invokeString, commitString, chainString};
 use operation::Operation;
 
 // The 11 bytes of mark, operation and author.
@@ -11,28 +11,6 @@ fn head(a: u8, b: u8, e: Operation, author: u8) -> [u8; message::INVOKE_STRING]
 {
     let t = operation::op_bytes(e);
     [a, b, t[0], t[1], t[2], t[3], t[4], t[5], t[6], t[7], author]
-}
-
-// The 48 bytes of a commit or broadcast before the tag.
-pub fn front(
-    a: u8,
-    b: u8,
-    e: Operation,
-    author: u8,
-    seq: u32,
-    digest: [u8; message::DIGEST_LENGTH],
-    status: u8,
-) -> [u8; message::TAG_OFFSET]
-    ensures { λ r. ⌜ r ≡ a ∷ b ∷ commitBody e author seq digest status ⌝ }
-{
-    let mut t = [0u8; message::TAG_OFFSET];
-    let h = head(a, b, e, author);
-    let w = slices::word_bytes(seq);
-    slices::copy_to(&mut t, 0, &h);
-    slices::copy_to(&mut t, message::SEQ_OFFSET, &w);
-    slices::copy_to(&mut t, message::DIGEST_OFFSET, &digest);
-    slices::copy_to(&mut t, message::STATUS_OFFSET, &[status]);
-    t
 }
 
 // The string under an invoke's tag.
@@ -52,7 +30,14 @@ pub fn commit_string(
 ) -> [u8; message::TAG_OFFSET]
     ensures { λ r. ⌜ r ≡ commitString e author seq digest status ⌝ }
 {
-    front(67, 79, e, author, seq, digest, status)
+    let mut t = [0u8; message::TAG_OFFSET];
+    let h = head(67, 79, e, author);
+    let w = slices::word_bytes(seq);
+    slices::copy_to(&mut t, 0, &h);
+    slices::copy_to(&mut t, message::SEQ_OFFSET, &w);
+    slices::copy_to(&mut t, message::DIGEST_OFFSET, &digest);
+    slices::copy_to(&mut t, message::STATUS_OFFSET, &[status]);
+    t
 }
 
 // The string under the hash chain's value at `seq`; `value` is the one before it.

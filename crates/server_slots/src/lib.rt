@@ -8,7 +8,7 @@ ghost use Rattle.message.specs.Layout.{digestLength, itemLength};
 ghost use Rattle.message.specs.Message.{itemAt};
 ghost use Rattle.server.specs.Server.{itemOk, slotOk, slotsOk};
 ghost use Rattle.server.specs.declared.Server.{Server};
-ghost use Rattle.server_slots.specs.Slots.{withSlots};
+ghost use Rattle.server.specs.Slots.{withSlots};
 
 // Whether the digest or tag at `at` is zero.
 fn zero_part(s: &[u8], at: usize) -> bool

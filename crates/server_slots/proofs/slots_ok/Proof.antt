@@ -5,7 +5,7 @@ use borrow.Author.Needs.{needs}
 use Rattle.server.specs.declared.Server.{Server}
 use Rattle.server.specs.Server.{slotsOk}
 use Rattle.server.proofs.Laws.{slots-more}
-use Rattle.server_slots.specs.Slots.{withSlots}
+use Rattle.server.specs.Slots.{withSlots}
 use Rattle.server_slots.proofs.slots_ok.Statement.{statement}
 use Rattle.server_slots.proofs.slots_ok.Tie as tie
 
