@@ -15,7 +15,7 @@ use Rattle.replica.specs.Places.{valueAt}
 use Rattle.replica.proofs.Places.{first-value}
 use Rattle.replica.proofs.Laws.{Sound}
 use Rattle.client_broadcast.specs.Broadcast.{commitOk, nextValue, confirmedReplica}
-use Rattle.client_reply_check.specs.ReplyChecks.{itemOk, itemValue, itemChainOk, replyNo}
+use Rattle.client_reply_check.specs.ReplyChecks.{listedOk, itemValue, itemChainOk, replyNo}
 use Rattle.client_reply.specs.Reply.{chainAfter, sortItem, sortTo, isAborted, lastResponse, repliedReplica}
 use Rattle.client_laws.proofs.Invoke.{open-sound}
 use Rattle.client_laws.proofs.Chain.{values-stay}
@@ -40,7 +40,7 @@ module _ (keys : List ℕ) (L : length keys ≡ 256) where
   sa₁ = sound-after (a₀ keys) (invoke 1 3 0 0 43) sa₀ step₁
 
   pub passes₂ : replyNo (a₁ keys) (replyBytes (iB keys ∷ iA keys ∷ [])) 80 ≡ 0
-  unfolding itemOk opOk allowed sameOp itemChainOk
+  unfolding listedOk opOk allowed sameOp itemChainOk
   passes₂ = two-passes (a₁ keys) (iB keys) (iA keys) (fB keys) (fA keys) (sa₁ .range) refl (item-passes (a₁ keys) 2 0 oB 1 refl refl) (item-passes (a₁ keys) 2 1 oA 1 refl refl) refl refl
 
   -- the first item is its own and has no status, so it is passed over
@@ -85,7 +85,7 @@ module _ (keys : List ℕ) (L : length keys ≡ 256) where
   held₄ = (λ t. same (linkValue (a₃-zero t) oB 1 1) (a₃-one t)) ∙ same-self v₁
 
   pub passes₄ : replyNo (a₃ keys) (replyBytes (iB keys ∷ [])) 80 ≡ 0
-  unfolding repliedReplica itemOk opOk allowed sameOp itemChainOk itemValue
+  unfolding repliedReplica listedOk opOk allowed sameOp itemChainOk itemValue
   passes₄ = one-passes (a₃ keys) (iB keys) (fB keys) (sa₃ .range) refl (item-passes (a₃ keys) 1 0 oB 1 refl held₄) refl refl
 
   pub step₄ : stepOf (a₃ keys) (receive 1 (replyBytes (iB keys ∷ [])) 80) ≡ replyEvent 1 (a₃ keys) (iB keys ∷ []) 1 false 1 .step

@@ -17,7 +17,7 @@ use Rattle.replica.specs.declared.Replica.{Replica}
 use Rattle.replica.specs.Replica.{Step}
 use Rattle.checks.proofs.Laws.{Yes}
 use Rattle.client_broadcast.specs.Broadcast.{broadcastStep}
-use Rattle.client_reply_check.specs.ReplyChecks.{itemOk, itemChainOk, itemChecks, replyNo}
+use Rattle.client_reply_check.specs.ReplyChecks.{listedOk, itemChainOk, itemChecks, replyNo}
 use Rattle.client_reply.specs.Reply.{chainAfter, isAborted, lastResponse, saysOf, status, repliedReplica, commitMessage, replyDone, replyStep}
 use Rattle.client_laws.proofs.Reply.{reply-done}
 use Rattle.client.specs.Receive.{receiveStep}
@@ -31,7 +31,7 @@ pub item-fits : (keys : List ℕ) (e : Operation) (a : ℕ) → e .count < 2 ^ 3
 item-fits keys e a c = record { count = c; tag = invoke-tag-length keys e a }
 
 -- its checks, where no chain value is held there, or the one that it gives
-pub item-passes : (r : Replica) (n k : ℕ) (e : Operation) (a : ℕ) → itemOk (r .confirmed) k (itemBy (r .keys) e a) ≡ true
+pub item-passes : (r : Replica) (n k : ℕ) (e : Operation) (a : ℕ) → listedOk (r .confirmed) k (itemBy (r .keys) e a) ≡ true
     → itemChainOk (r .confirmed) (r .held) (r .chain) k (itemBy (r .keys) e a) ≡ true → Yes (itemChecks r n k (itemBy (r .keys) e a))
 unfolding itemTagOk
 item-passes r n k e a p q = (p, (same-self (invokeTag (r .keys) e a), (q, tt)))

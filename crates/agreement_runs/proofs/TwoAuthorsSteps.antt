@@ -13,7 +13,7 @@ use Rattle.replica.specs.Places.{valueAt}
 use Rattle.replica.proofs.Places.{first-value}
 use Rattle.replica.proofs.Laws.{Sound}
 use Rattle.client_broadcast.specs.Broadcast.{commitOk, nextValue, confirmedReplica}
-use Rattle.client_reply_check.specs.ReplyChecks.{itemOk, itemChainOk, replyNo}
+use Rattle.client_reply_check.specs.ReplyChecks.{listedOk, itemChainOk, replyNo}
 use Rattle.client_reply.specs.Reply.{chainAfter, sortItem, sortTo, isAborted, lastResponse, repliedReplica}
 use Rattle.client_laws.proofs.Invoke.{open-sound}
 use Rattle.client_laws.proofs.Chain.{values-stay}
@@ -38,7 +38,7 @@ module _ (keys : List ℕ) (L : length keys ≡ 256) where
   sa₁ = sound-after (a₀ keys) (invoke 1 4 0 7 43) sa₀ step₁
 
   pub passes₁ : replyNo (a₁ keys) (replyBytes (i₁ keys ∷ [])) 80 ≡ 0
-  unfolding itemOk opOk allowed sameOp itemChainOk
+  unfolding listedOk opOk allowed sameOp itemChainOk
   passes₁ = one-passes (a₁ keys) (i₁ keys) (f₁ keys) (sa₁ .range) refl (item-passes (a₁ keys) 1 0 o₁ 1 refl refl) refl refl
 
   pub step₂ : stepOf (a₁ keys) (receive 1 (replyBytes (i₁ keys ∷ [])) 80) ≡ replyEvent 1 (a₁ keys) (i₁ keys ∷ []) 1 false 1 .step
@@ -92,7 +92,7 @@ module _ (keys : List ℕ) (L : length keys ≡ 256) where
   sb₁ = sound-after (b₀ keys) (invoke 2 3 0 0 43) sb₀ step₃
 
   pub passes₂ : replyNo (b₁ keys) (replyBytes (i₁ keys ∷ i₂ keys ∷ [])) 80 ≡ 0
-  unfolding itemOk opOk allowed sameOp itemChainOk
+  unfolding listedOk opOk allowed sameOp itemChainOk
   passes₂ = two-passes (b₁ keys) (i₁ keys) (i₂ keys) (f₁ keys) (f₂ keys) (sb₁ .range) refl (item-passes (b₁ keys) 2 0 o₁ 1 refl refl) (item-passes (b₁ keys) 2 1 o₂ 2 refl refl) refl refl
 
   aborts : isAborted (b₁ keys) (replyBytes (i₁ keys ∷ i₂ keys ∷ [])) ≡ true

@@ -22,7 +22,7 @@ fn seq_ok(r: Replica, k: Commit) -> bool
 }
 
 // The chain value at the next sequence number.
-fn next_value(r: Replica, k: Commit) -> [u8; 32]
+fn next_value(r: Replica, k: Commit) -> [u8; message::DIGEST_LENGTH]
     ensures { λ q. ⌜ q ≡ nextValue r k ⌝ }
 {
     let chain = r.chain;

@@ -1,10 +1,10 @@
 // Taking a broadcast, once it is checked. Definitions: specs/Broadcast.antt of client_broadcast.
 ghost use mathlib.Core.Path.{_≡_};
-ghost use Prim.Native.Nat.{_+_, _-_, _<_};
+ghost use Prim.Native.Nat.{_-_, _*_, _<_};
 ghost use mathlib.Core.Bool.{true};
 ghost use mathlib.Core.List.{_∷_, [], _++_};
 ghost use lib.ListN.{drop, replicate};
-ghost use Rattle.message.specs.Layout.{maxSeq};
+ghost use Rattle.message.specs.Layout.{maxSeq, digestLength};
 ghost use Rattle.replica.specs.Replica.{afterOf};
 ghost use Rattle.client_broadcast.specs.Broadcast.{digestOk, confirmedReplica, broadcastStep};
 use message::Commit;
@@ -13,21 +13,32 @@ use replica::Outcome;
 use replica::Replica;
 use replica::Stepped;
 
+// Where the value at the next place ends in a chain: after two values.
+const NEXT_END: usize = 64;
+
 // The chain with its first value gone and the next one in its place.
-fn chain_shift(chain: [u8; 1056], next: [u8; 32]) -> [u8; 1056]
-    ensures { λ r. ⌜ r ≡ next ++ drop 64 chain ++ replicate 32 0 ⌝ }
+fn chain_shift(
+    chain: [u8; replica::CHAIN_LENGTH],
+    next: [u8; message::DIGEST_LENGTH],
+) -> [u8; replica::CHAIN_LENGTH]
+    ensures { λ r. ⌜ r ≡ next ++ drop (2 * digestLength) chain ++ replicate digestLength 0 ⌝ }
 {
-    let mut t = [0u8; 1056];
+    let mut t = [0u8; replica::CHAIN_LENGTH];
     slices::copy_to(&mut t, 0, &next);
-    slices::copy_to(&mut t, 32, &chain[64..1056]);
+    slices::copy_to(
+        &mut t,
+        message::DIGEST_LENGTH,
+        &chain[NEXT_END..replica::CHAIN_LENGTH],
+    );
     t
 }
 
-fn status_shift(s: [u8; 32]) -> [u8; 32]
+// The statuses with the first one gone.
+fn status_shift(s: [u8; operation::MAX_PENDING]) -> [u8; operation::MAX_PENDING]
     ensures { λ r. ⌜ r ≡ drop 1 s ++ (0 ∷ []) ⌝ }
 {
-    let mut t = [0u8; 32];
-    slices::copy_to(&mut t, 0, &s[1..32]);
+    let mut t = [0u8; operation::MAX_PENDING];
+    slices::copy_to(&mut t, 0, &s[1..operation::MAX_PENDING]);
     t
 }
 

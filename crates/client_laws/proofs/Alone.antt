@@ -6,7 +6,7 @@ use Rattle.operation.specs.declared.Operation.{Operation}
 use Rattle.operation.specs.Operation.{Response, after, responseOn, runAll}
 use Rattle.conflict.specs.Conflict.{own, responses}
 use Rattle.replica.specs.declared.Replica.{Replica}
-use Rattle.client_reply.specs.Reply.{pending, lastResponse}
+use Rattle.client_reply.specs.Reply.{earlier, lastResponse}
 
 pub last-alone : (es : List Operation) (e : Operation) (cells : List ℕ)
     → responses cells (map own (es ++ (e ∷ []))) ≡ responses cells (map own es) ++ (responseOn e (runAll es cells) ∷ [])
@@ -16,7 +16,7 @@ last-alone (d ∷ es) e cells = ap (λ (x : List Response). responseOn d cells �
 
 -- of a reply: the own pending operations with the current one at their end
 pub reply-alone : (r : Replica) (m : List ℕ)
-    → responses (r .cells) (map own (pending r m .own ++ (r .current ∷ [])))
-    ≡ responses (r .cells) (map own (pending r m .own)) ++ (lastResponse r m ∷ [])
+    → responses (r .cells) (map own (earlier r m .own ++ (r .current ∷ [])))
+    ≡ responses (r .cells) (map own (earlier r m .own)) ++ (lastResponse r m ∷ [])
 unfolding lastResponse
-reply-alone r m = last-alone (pending r m .own) (r .current) (r .cells)
+reply-alone r m = last-alone (earlier r m .own) (r .current) (r .cells)

@@ -46,17 +46,17 @@ sortTo c number statuses m zero = record { others = []; own = [] }
 sortTo c number statuses m (suc k) = sortItem c number statuses k (replyItem m k) (sortTo c number statuses m k)
 
 -- the items before the last
-abbrev pub pending : Replica → List ℕ → Sorted
-pending r m = sortTo (r .confirmed) (r .number) (r .statuses) m (replyCount m - 1)
+abbrev pub earlier : Replica → List ℕ → Sorted
+earlier r m = sortTo (r .confirmed) (r .number) (r .statuses) m (replyCount m - 1)
 
 -- ---- the response
 -- "with the entry in hand at its end. If the first list doesn't conflict with the second on the confirmed cells, …; else "aside""
 unfoldable pub isAborted : Replica → List ℕ → Bool
-isAborted r m = conflicts (r .cells) (pending r m .others) (pending r m .own ++ (r .current ∷ []))
+isAborted r m = conflicts (r .cells) (earlier r m .others) (earlier r m .own ++ (r .current ∷ []))
 
 -- "the second is run on a copy and the last answer is given"
 unfoldable pub lastResponse : Replica → List ℕ → Response
-lastResponse r m = responseOn (r .current) (runAll (pending r m .own) (r .cells))
+lastResponse r m = responseOn (r .current) (runAll (earlier r m .own) (r .cells))
 
 abbrev pub lastSeq : Replica → List ℕ → ℕ
 lastSeq r m = r .confirmed + replyCount m

@@ -18,7 +18,7 @@ use Rattle.checks.proofs.Laws.{first-stays, first-append, first-zero, all-yes, 
 use Rattle.replica.specs.Outcome.{isStop}
 use Rattle.replica.specs.Replica.{inRange}
 use Rattle.replica.proofs.Laws.{ranged}
-use Rattle.client_reply_check.specs.ReplyChecks.{seqAt, itemOk, itemChecks, proofChecks, itemsChecks, lastItem, lastOk, formChecks, lastChecks, replyNo}
+use Rattle.client_reply_check.specs.ReplyChecks.{seqAt, listedOk, itemChecks, proofChecks, itemsChecks, lastItem, lastOk, formChecks, lastChecks, replyNo}
 
 -- ---- an item's checks
 pub record ItemAllowed (c k : ℕ) (i : Item) : Type 0 where
@@ -27,17 +27,17 @@ pub record ItemAllowed (c k : ℕ) (i : Item) : Type 0 where
   pub high : i .author ≤ 8
   pub seq : seqAt c k ≤ 1000000
 
-pub item-allowed : (c k : ℕ) (i : Item) → itemOk c k i ≡ true → ItemAllowed c k i
-unfolding itemOk
+pub item-allowed : (c k : ℕ) (i : Item) → listedOk c k i ≡ true → ItemAllowed c k i
+unfolding listedOk
 item-allowed c k i e =
     let y = every-yes true (opOk (i .op) ∷ leb 1 (i .author) ∷ leb (i .author) 8 ∷ leb (seqAt c k) 1000000 ∷ []) e .1 in
     record { op = y .0; low = leb-true _ _ (y .1 .0); high = leb-true _ _ (y .1 .1 .0); seq = leb-true _ _ (y .1 .1 .1 .0) }
 
 module _ (r : Replica) (n k : ℕ) (i : Item) where
-  pub item-goes : itemOk (r .confirmed) k i ≡ true → firstNo 0 (proofChecks r k i) ≡ firstNo 0 (itemChecks r n k i)
+  pub item-goes : listedOk (r .confirmed) k i ≡ true → firstNo 0 (proofChecks r k i) ≡ firstNo 0 (itemChecks r n k i)
   item-goes e = rw e
 
-  pub item-stops : itemOk (r .confirmed) k i ≡ false → 21 ≡ firstNo 0 (itemChecks r n k i)
+  pub item-stops : listedOk (r .confirmed) k i ≡ false → 21 ≡ firstNo 0 (itemChecks r n k i)
   item-stops e = rw e
 
 -- one item more

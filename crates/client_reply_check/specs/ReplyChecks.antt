@@ -20,8 +20,8 @@ abbrev pub seqAt : ℕ → ℕ → ℕ
 seqAt c k = c + (k + 1)
 
 -- 21: "entry, author allowed and place at most 1,000,000?"
-unfoldable pub itemOk : ℕ → ℕ → Item → Bool
-itemOk c k i = every true (opOk (i .op) ∷ leb 1 (i .author) ∷ leb (i .author) clientCount ∷ leb (seqAt c k) maxSeq ∷ [])
+unfoldable pub listedOk : ℕ → ℕ → Item → Bool
+listedOk c k i = every true (opOk (i .op) ∷ leb 1 (i .author) ∷ leb (i .author) clientCount ∷ leb (seqAt c k) maxSeq ∷ [])
 
 -- the chain value of item k, from the value before it in the chain
 unfoldable pub itemValue : ℕ → ℕ → Item → List ℕ → List ℕ
@@ -36,7 +36,7 @@ abbrev pub proofChecks : Replica → ℕ → Item → List (Bool × ℕ)
 proofChecks r k i = (itemTagOk (r .keys) i, 22) ∷ (itemChainOk (r .confirmed) (r .held) (r .chain) k i, 23) ∷ []
 
 abbrev pub itemChecks : Replica → ℕ → ℕ → Item → List (Bool × ℕ)
-itemChecks r n k i = (itemOk (r .confirmed) k i, 21) ∷ proofChecks r k i
+itemChecks r n k i = (listedOk (r .confirmed) k i, 21) ∷ proofChecks r k i
 
 -- those of the first k items
 unfoldable pub itemsChecks : Replica → List ℕ → ℕ → List (Bool × ℕ)

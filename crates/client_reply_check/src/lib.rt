@@ -4,15 +4,15 @@ ghost use Prim.Native.Nat.{_+_, _<_, _≤_};
 ghost use Rattle.operation.specs.Operation.{maxPending};
 ghost use Rattle.message.specs.Layout.{clientCount, maxSeq};
 ghost use Rattle.checks.specs.Checks.{firstNo};
-ghost use Rattle.client_reply_check.specs.ReplyChecks.{itemOk, itemValue, itemChainOk, proofChecks, itemChecks};
+ghost use Rattle.client_reply_check.specs.ReplyChecks.{listedOk, itemValue, itemChainOk, proofChecks, itemChecks};
 ghost use Rattle.key_table.specs.KeyTable.{StateOf};
 use hmac::Keyed;
 use message::Item;
 use replica::Replica;
 
-fn item_ok(c: u32, k: usize, i: Item) -> bool
+fn listed_ok(c: u32, k: usize, i: Item) -> bool
     requires { ⌜ k < maxPending ⌝ }
-    ensures { λ r. ⌜ r ≡ itemOk c k i ⌝ }
+    ensures { λ r. ⌜ r ≡ listedOk c k i ⌝ }
 {
     let e = i.op;
     let seq = c as u64 + (k as u64 + 1);
@@ -65,7 +65,7 @@ fn item_check(r: Replica, n: usize, k: usize, i: Item, s: Keyed) -> u8
     requires { ⌜ (k < maxPending) × (r .confirmed ≤ maxSeq) × (1 ≤ i .author → i .author ≤ clientCount → StateOf (r .keys) (i .author) s) ⌝ }
     ensures { λ q. ⌜ q ≡ firstNo 0 (itemChecks r n k i) ⌝ }
 {
-    if item_ok(r.confirmed, k, i) {
+    if listed_ok(r.confirmed, k, i) {
         item_proof(r, k, i, s)
     } else {
         21

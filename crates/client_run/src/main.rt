@@ -57,15 +57,15 @@ fn keys_of(state: &[u8]) -> [u8; 256]
     t
 }
 
-fn chain_of(state: &[u8]) -> [u8; 1056]
+fn chain_of(state: &[u8]) -> [u8; replica::CHAIN_LENGTH]
     requires { ⌜ 1382 ≤ length (now state) ⌝ }
 {
-    let mut t = [0u8; 1056];
+    let mut t = [0u8; replica::CHAIN_LENGTH];
     slices::copy_to(&mut t, 0, &state[277..1333]);
     t
 }
 
-fn cells_of(state: &[u8]) -> [u8; 16]
+fn cells_of(state: &[u8]) -> operation::Cells
     requires { ⌜ 1382 ≤ length (now state) ⌝ }
 {
     let mut t = [0u8; 16];
@@ -104,15 +104,15 @@ fn copy_current(state: &mut [u8], current: Operation) {
     call_lines::copy_part(state, 261, &bytes);
 }
 
-fn copy_chain(state: &mut [u8], chain: [u8; 1056]) {
+fn copy_chain(state: &mut [u8], chain: [u8; replica::CHAIN_LENGTH]) {
     call_lines::copy_part(state, 277, &chain);
 }
 
-fn copy_statuses(state: &mut [u8], statuses: [u8; 32]) {
+fn copy_statuses(state: &mut [u8], statuses: [u8; operation::MAX_PENDING]) {
     call_lines::copy_part(state, 1333, &statuses);
 }
 
-fn copy_cells(state: &mut [u8], cells: [u8; 16]) {
+fn copy_cells(state: &mut [u8], cells: operation::Cells) {
     call_lines::copy_part(state, 1365, &cells);
 }
 

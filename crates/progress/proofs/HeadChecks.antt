@@ -14,7 +14,7 @@ use Rattle.message.specs.Message.{isInvoke, itemAt, commitOf}
 use Rattle.replica.specs.declared.Replica.{Replica}
 use Rattle.checks.proofs.Laws.{every-each}
 use Rattle.server.specs.declared.Server.{Server}
-use Rattle.server.specs.Server.{itemOk, invokeOk, commitOk, authorOf, lineChecks, lastCount, invokeChecks, slotItem, slotOf, placeOk, commitChecks, serverNo}
+use Rattle.server.specs.Server.{itemOk, wholeInvoke, wholeCommit, authorOf, lineChecks, lastCount, invokeChecks, slotItem, slotOf, placeOk, commitChecks, serverNo}
 use Rattle.server.specs.Server as Sv
 use Rattle.progress.specs.HonestRuns.{Line}
 use Rattle.progress.proofs.Invariant.{Ghost, Downs, Asked, Sent, Asks, invokes, Client}
@@ -47,8 +47,8 @@ module _ (g : Ghost) (s : Server) (range : Sv.inRange s ≡ true) (n b : ℕ) (l
           (le-leb _ _ (subst (λ (x : ℕ). 1 ≤ x) (sym (a .mine)) low), (le-leb _ _ (subst (λ (x : ℕ). x ≤ 8) (sym (a .mine)) high), tt)),
         )
 
-    invoke-fine : invokeOk m ≡ true
-    unfolding invokeOk
+    invoke-fine : wholeInvoke m ≡ true
+    unfolding wholeInvoke
     invoke-fine = rw (e, item-fine)
 
     author-is : authorOf m ≡ itemAt m 2 .author
@@ -79,7 +79,7 @@ module _ (g : Ghost) (s : Server) (range : Sv.inRange s ≡ true) (n b : ℕ) (l
         (first-among P 0 (lineChecks s n m ++ invokeChecks s (itemAt m 2) room) z (
           inl range,
           (
-            inl (or-left (invokeOk m) (commitOk m) invoke-fine),
+            inl (or-left (wholeInvoke m) (wholeCommit m) invoke-fine),
             (inl (eq-eqb _ _ (author-is ∙ asked .0 .mine)), (inl (eq-eqb _ _ next), (inr p, (inr q, (inr o, tt))))),
           ),
         ))
@@ -92,8 +92,8 @@ module _ (g : Ghost) (s : Server) (range : Sv.inRange s ≡ true) (n b : ℕ) (l
     sent : Sent g s n m × (Asks g n (r .current) u × Downs g s n b noOp (r .confirmed) d)
     sent = sent-head g s n b (r .current) (r .confirmed) m u d e (C .lines)
 
-    commit-fine : commitOk m ≡ true
-    unfolding commitOk
+    commit-fine : wholeCommit m ≡ true
+    unfolding wholeCommit
     commit-fine =
         let a = sent .0 in
         rw (a .form)
@@ -131,7 +131,7 @@ module _ (g : Ghost) (s : Server) (range : Sv.inRange s ≡ true) (n b : ℕ) (l
         (first-among P 0 (lineChecks s n m ++ commitChecks s k room) z (
           inl range,
           (
-            inl (or-right (invokeOk m) (commitOk m) commit-fine),
+            inl (or-right (wholeInvoke m) (wholeCommit m) commit-fine),
             (
               inl (eq-eqb _ _ (sender-is ∙ sent .0 .mine)),
               (inl place-fine, (inl (eq-eqb _ _ (sent .0 .awaited .none)), (enough, tt))),

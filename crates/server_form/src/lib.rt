@@ -1,10 +1,10 @@
 // The form and content of a message to the server: check 30 (document 01). Definitions: specs/Server.antt of server.
 ghost use mathlib.Core.Path.{_≡_};
-ghost use Rattle.server.specs.Server.{invokeOk, commitOk};
+ghost use Rattle.server.specs.Server.{wholeInvoke, wholeCommit};
 
 // Whether the bytes are an invoke whose operation and author are allowed.
-pub fn invoke_ok(m: &[u8]) -> bool
-    ensures { λ r. ⌜ r ≡ invokeOk (now (m .entry)) ⌝ }
+pub fn whole_invoke(m: &[u8]) -> bool
+    ensures { λ r. ⌜ r ≡ wholeInvoke (now (m .entry)) ⌝ }
 {
     let r = message::read_invoke(m);
     let ok = r.ok;
@@ -13,8 +13,8 @@ pub fn invoke_ok(m: &[u8]) -> bool
 }
 
 // Whether the bytes are a commit whose operation, author and status are allowed.
-pub fn commit_ok(m: &[u8]) -> bool
-    ensures { λ r. ⌜ r ≡ commitOk (now (m .entry)) ⌝ }
+pub fn whole_commit(m: &[u8]) -> bool
+    ensures { λ r. ⌜ r ≡ wholeCommit (now (m .entry)) ⌝ }
 {
     let r = message::read_commit(m);
     let ok = r.ok;

@@ -19,7 +19,7 @@ use Rattle.message.specs.Message.{itemBytes}
 use Rattle.message.proofs.Laws.{item-length}
 use Rattle.client_laws.proofs.Chain.{le-or-lt}
 use Rattle.server.specs.declared.Server.{Server}
-use Rattle.server.specs.Server.{pending, slotDigest, slotTag, itemOk, slotOk, heldStatus, slotOf, placedServer, storedServer, passedServer}
+use Rattle.server.specs.Server.{pending, slotDigest, slotTag, itemOk, slotOk, storedStatus, slotOf, placedServer, storedServer, passedServer}
 use Rattle.server_laws.proofs.State as State
 use Rattle.server_laws.proofs.Range.{Ranged, Sound, slot-same, slot-empty, slot-full, slot-item, all-take, item-count, op-count}
 
@@ -77,11 +77,11 @@ module _ (s : Server) (S : Sound s) (i : Item) (few : pending s < 32) (early : s
       }
 
 -- ---- a commit is stored
-held-small : (x : ℕ) → leb (heldStatus x) 2 ≡ true
-held-small x = cond-cases (λ (y : ℕ). leb y 2 ≡ true) (eqb x 1) 1 2 (λ e. refl) (λ e. refl)
+stored-small : (x : ℕ) → leb (storedStatus x) 2 ≡ true
+stored-small x = cond-cases (λ (y : ℕ). leb y 2 ≡ true) (eqb x 1) 1 2 (λ e. refl) (λ e. refl)
 
-held-some : (x : ℕ) → isZero (heldStatus x) ≡ false
-held-some x = cond-cases (λ (y : ℕ). isZero y ≡ false) (eqb x 1) 1 2 (λ e. refl) (λ e. refl)
+stored-some : (x : ℕ) → isZero (storedStatus x) ≡ false
+stored-some x = cond-cases (λ (y : ℕ). isZero y ≡ false) (eqb x 1) 1 2 (λ e. refl) (λ e. refl)
 
 module _ (s : Server) (S : Sound s) (k : Commit) (inside : slotOf s k < pending s) (dl : length (k .digest) ≡ 32) (tl : length (k .tag) ≡ 32) where
   abbrev q : ℕ
@@ -95,7 +95,7 @@ module _ (s : Server) (S : Sound s) (k : Commit) (inside : slotOf s k < pending 
       ap (slotOk t) e
       ∙ slot-full t q
       (ap itemOk (State.item-same s k q) ∙ slot-item s q (S .range .slots q inside))
-      (ap isZero (State.status-new s (S .sizes) (S .range .few) k inside dl tl) ∙ held-some (k .status))
+      (ap isZero (State.status-new s (S .sizes) (S .range .few) k inside dl tl) ∙ stored-some (k .status))
   stored-slot j (no n) h =
       slot-same s t j j
       (sym (State.item-same s k j))
@@ -117,10 +117,10 @@ module _ (s : Server) (S : Sound s) (k : Commit) (inside : slotOf s k < pending 
           early = r .early;
           few = r .few;
           counts = r .counts;
-          statuses = all-set (λ x. leb x 2) (s .statuses) q (heldStatus (k .status)) (r .statuses) (held-small (k .status));
+          statuses = all-set (λ x. leb x 2) (s .statuses) q (storedStatus (k .status)) (r .statuses) (stored-small (k .status));
           slots = λ j h. stored-slot j (ℕ-discrete j q) h;
           items = r .items;
-          unused = ap (all isZero) (drop-set-lt (pending s) (s .statuses) q (heldStatus (k .status)) inside) ∙ r .unused;
+          unused = ap (all isZero) (drop-set-lt (pending s) (s .statuses) q (storedStatus (k .status)) inside) ∙ r .unused;
           digests = ap (all isZero) (drop-put (s .digests) (k .digest) (q * 32) (pending s * 32) (omega arith) (omega arith)) ∙ r .digests;
           tags = ap (all isZero) (drop-put (s .tags) (k .tag) (q * 32) (pending s * 32) (omega arith) (omega arith)) ∙ r .tags;
         };

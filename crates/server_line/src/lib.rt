@@ -22,7 +22,7 @@ pub fn line_check(s: Server, line: u8, m: &[u8]) -> u8
     ensures { λ q. ⌜ q ≡ firstNo 0 (lineChecks s line (now (m .entry))) ⌝ }
 {
     let author = author_of(m);
-    let form = server_form::invoke_ok(m) | server_form::commit_ok(m);
+    let form = server_form::whole_invoke(m) | server_form::whole_commit(m);
     let q = checks::also(0, server_range::in_range(s), 8);
     let q = checks::also(q, form, 30);
     checks::also(q, author == line, 31)

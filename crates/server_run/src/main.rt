@@ -52,10 +52,10 @@ fn counts_of(state: &[u8]) -> [u32; 8]
     ]
 }
 
-fn items_of(state: &[u8]) -> [u8; 1312]
+fn items_of(state: &[u8]) -> [u8; server::ITEMS_LENGTH]
     requires { ⌜ 3432 ≤ length (now state) ⌝ }
 {
-    let mut t = [0u8; 1312];
+    let mut t = [0u8; server::ITEMS_LENGTH];
     slices::copy_to(&mut t, 0, &state[40..1352]);
     t
 }
@@ -97,7 +97,7 @@ fn copy_counts(state: &mut [u8], counts: [u32; 8]) {
     }
 }
 
-fn copy_items(state: &mut [u8], items: [u8; 1312]) {
+fn copy_items(state: &mut [u8], items: [u8; server::ITEMS_LENGTH]) {
     call_lines::copy_part(state, 40, &items);
 }
 

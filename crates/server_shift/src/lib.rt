@@ -27,7 +27,7 @@ fn shifted_statuses(
     requires { ⌜ n ≤ maxPending ⌝ }
     ensures { λ r. ⌜ r ≡ drop n statuses ++ replicate n 0 ⌝ }
 {
-    let mut t = [0u8; 32];
+    let mut t = [0u8; operation::MAX_PENDING];
     slices::copy_to(&mut t, 0, &statuses[n..operation::MAX_PENDING]);
     t
 }

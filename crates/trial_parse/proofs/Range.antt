@@ -11,7 +11,7 @@ use Rattle.text.specs.Text.{cut}
 use Rattle.text.proofs.Laws.{either}
 use Rattle.trial_words.specs.Words.{Asked, invoke, deliver, other, value, fromWords}
 use Rattle.trial_parse.specs.Parse.{parse}
-use Rattle.trial_words.proofs.Laws.{invokeOk, invoke-most}
+use Rattle.trial_words.proofs.Laws.{wordsFit, invoke-most}
 
 -- "a van not 1 to 8 or a number above 255" is in no command
 pub data InRange : Asked → Type 0 where
@@ -24,7 +24,7 @@ van-in b v e =
     let h = and-yes (b && leb 1 v) (leb v 8) e in
     (leb-true _ _ (and-yes b (leb 1 v) (h .0) .1), leb-true _ _ (h .1))
 
-invoke-low : (b : Bool) (v k c a : ℕ) → invokeOk b v k c a ≡ true → 1 ≤ v
+invoke-low : (b : Bool) (v k c a : ℕ) → wordsFit b v k c a ≡ true → 1 ≤ v
 invoke-low b v k c a e =
     let h₁ = and-yes (b && leb 1 v && leb v 8 && leb k 255 && leb c 255) (leb a 255) e in
     let h₂ = and-yes (b && leb 1 v && leb v 8 && leb k 255) (leb c 255) (h₁ .0) in
@@ -42,7 +42,7 @@ words-range (w ∷ v ∷ []) =
 words-range (w ∷ v ∷ k ∷ []) = other-in
 words-range (w ∷ v ∷ k ∷ c ∷ []) = other-in
 words-range (w ∷ v ∷ k ∷ c ∷ a ∷ []) =
-    either (invokeOk (same w (73 ∷ [])) (value v) (value k) (value c) (value a))
+    either (wordsFit (same w (73 ∷ [])) (value v) (value k) (value c) (value a))
     (λ e.
     let h = invoke-most (same w (73 ∷ [])) (value v) (value k) (value c) (value a) e in
     rw e (invoke-in (invoke-low (same w (73 ∷ [])) (value v) (value k) (value c) (value a) e) (h .0) (h .1) (h .2) (h .3)))

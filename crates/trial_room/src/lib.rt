@@ -32,7 +32,7 @@ pub fn has_place(s: Server) -> bool
 {
     if s.passed <= s.placed {
         if s.placed - s.passed < 32 {
-            s.placed < 1000000
+            s.placed < message::MAX_SEQ
         } else {
             false
         }

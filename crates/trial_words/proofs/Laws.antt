@@ -18,15 +18,15 @@ module _ (w v : List ℕ) (b : Bool) (n : ℕ) (p : b ≡ same w (68 ∷ [])) (q
   unfolding fromWords
   deliver-no e = rw (← p, ← q, e)
 
-abbrev pub invokeOk : Bool → ℕ → ℕ → ℕ → ℕ → Bool
-invokeOk b v k c a = b && leb 1 v && leb v 8 && leb k 255 && leb c 255 && leb a 255
+abbrev pub wordsFit : Bool → ℕ → ℕ → ℕ → ℕ → Bool
+wordsFit b v k c a = b && leb 1 v && leb v 8 && leb k 255 && leb c 255 && leb a 255
 
 module _ (w v k c a : List ℕ) (b : Bool) (n₁ n₂ n₃ n₄ : ℕ) (p : b ≡ same w (73 ∷ [])) (q₁ : n₁ ≡ value v) (q₂ : n₂ ≡ value k) (q₃ : n₃ ≡ value c) (q₄ : n₄ ≡ value a) where
-  pub invoke-yes : invokeOk b n₁ n₂ n₃ n₄ ≡ true → invoke n₁ n₂ n₃ n₄ ≡ fromWords (w ∷ v ∷ k ∷ c ∷ a ∷ [])
+  pub invoke-yes : wordsFit b n₁ n₂ n₃ n₄ ≡ true → invoke n₁ n₂ n₃ n₄ ≡ fromWords (w ∷ v ∷ k ∷ c ∷ a ∷ [])
   unfolding fromWords
   invoke-yes e = rw (← p, ← q₁, ← q₂, ← q₃, ← q₄, e)
 
-  pub invoke-no : invokeOk b n₁ n₂ n₃ n₄ ≡ false → other ≡ fromWords (w ∷ v ∷ k ∷ c ∷ a ∷ [])
+  pub invoke-no : wordsFit b n₁ n₂ n₃ n₄ ≡ false → other ≡ fromWords (w ∷ v ∷ k ∷ c ∷ a ∷ [])
   unfolding fromWords
   invoke-no e = rw (← p, ← q₁, ← q₂, ← q₃, ← q₄, e)
 
@@ -34,7 +34,7 @@ module _ (w v k c a : List ℕ) (b : Bool) (n₁ n₂ n₃ n₄ : ℕ) (p : b �
 pub last-most : (b : Bool) (n m : ℕ) → (b && leb n m) ≡ true → n ≤ m
 last-most b n m e = leb-true n m (and-yes b (leb n m) e .1)
 
-pub invoke-most : (b : Bool) (v k c a : ℕ) → invokeOk b v k c a ≡ true → (v ≤ 8) × (k ≤ 255) × (c ≤ 255) × (a ≤ 255)
+pub invoke-most : (b : Bool) (v k c a : ℕ) → wordsFit b v k c a ≡ true → (v ≤ 8) × (k ≤ 255) × (c ≤ 255) × (a ≤ 255)
 invoke-most b v k c a e =
     let h₁ = and-yes (b && leb 1 v && leb v 8 && leb k 255 && leb c 255) (leb a 255) e in
     let h₂ = and-yes (b && leb 1 v && leb v 8 && leb k 255) (leb c 255) (h₁ .0) in

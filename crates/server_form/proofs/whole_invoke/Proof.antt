@@ -1,10 +1,10 @@
 use borrow.Author.Needs.{needs}
 use Rattle.message.specs.Message.{isInvoke, itemAt}
 use Rattle.message.specs.Readers.{noItem, readInvoke}
-use Rattle.server.specs.Server.{itemOk, invokeOk}
+use Rattle.server.specs.Server.{itemOk, wholeInvoke}
 use Rattle.server_form.proofs.Laws.{read-ok}
-use Rattle.server_form.proofs.invoke_ok.Statement.{statement}
-use Rattle.server_form.proofs.invoke_ok.Tie as tie
+use Rattle.server_form.proofs.whole_invoke.Statement.{statement}
+use Rattle.server_form.proofs.whole_invoke.Tie as tie
 
 read-invoke-requires : tie.Need-read-invoke-requires
 read-invoke-requires c κs = search needs
@@ -13,11 +13,11 @@ item-ok-requires : tie.Need-item-ok-requires
 item-ok-requires c κs = search needs
 
 returns : tie.Need-returns
-unfolding invokeOk readInvoke
+unfolding wholeInvoke readInvoke
 returns c =
     let r = c .before .before in
     let m = r .before .before .args .m .now in
     rw (c .item-ok .ensures, r .read-invoke .ensures) (read-ok itemOk (isInvoke m) (itemAt m 2) noItem)
 
-pub invoke-ok-spec : {M : Type 1} → statement M
-invoke-ok-spec = tie.close (tie.spec read-invoke-requires item-ok-requires returns)
+pub whole-invoke-spec : {M : Type 1} → statement M
+whole-invoke-spec = tie.close (tie.spec read-invoke-requires item-ok-requires returns)
