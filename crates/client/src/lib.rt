@@ -20,7 +20,7 @@ pub fn invoke(r: Replica, kind: u8, cell: u8, amount: u8, out: &mut [u8]) -> Ste
     ensures { λ q. ⌜ (afterOf q ≡ invokeStep r kind cell amount (length (now (out .entry))) .after)
         × (now (out .exit) ≡ over (invokeStep r kind cell amount (length (now (out .entry))) .wrote) (now (out .entry))) ⌝ }
 {
-    client_invoke::invoke(r, kind, cell, amount, out)
+    client_make::invoke(r, kind, cell, amount, out)
 }
 
 // Takes a message from the server; the commit that a reply calls for goes to the front of `out`.

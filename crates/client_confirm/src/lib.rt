@@ -60,7 +60,7 @@ fn confirmed_replica(r: Replica, k: Commit) -> Replica
     let old_cells = r.cells;
     let chain = chain_shift(old_chain, next);
     let statuses = status_shift(old_statuses);
-    let cells = operation::effect_on(k.status == 1, e, old_cells);
+    let cells = operation_run::effect_on(k.status == 1, e, old_cells);
     let mut n = r;
     n.confirmed = r.confirmed + 1;
     n.held = less_one(r.held);

@@ -1,20 +1,10 @@
-// Invoking an operation. Definitions: specs/Invoke.antt.
+// The checks of an invoke. Definitions of invoking: specs/Invoke.antt.
 ghost use mathlib.Core.Path.{_≡_};
-ghost use Prim.Native.Nat.{_≤_};
-ghost use mathlib.Core.List.{_++_};
-ghost use lib.ListN.{length, drop};
-ghost use Rattle.message.specs.Layout.{clientCount, invokeLength};
-ghost use Rattle.replica.specs.Replica.{afterOf, over};
-ghost use Rattle.client_invoke.specs.Invoke.{invokeNo, invokedReplica, invokeMessage, invokeStep};
-use message::Item;
-use operation::Operation;
-use replica::Event;
-use replica::Outcome;
+ghost use Rattle.client_invoke.specs.Invoke.{invokeNo};
 use replica::Replica;
-use replica::Stepped;
 
 // The checks of an invoke, in their order.
-fn invoke_check(r: Replica, kind: u8, cell: u8, amount: u8, room: usize) -> u8
+pub fn invoke_check(r: Replica, kind: u8, cell: u8, amount: u8, room: usize) -> u8
     ensures { λ q. ⌜ q ≡ invokeNo r kind cell amount room ⌝ }
 {
     let current = r.current;
@@ -24,55 +14,4 @@ fn invoke_check(r: Replica, kind: u8, cell: u8, amount: u8, room: usize) -> u8
     let q = checks::also(q, operation::is_allowed(kind, cell, amount, 0), 5);
     let q = checks::also(q, count < operation::MAX_COUNT, 6);
     checks::also(q, message::INVOKE_LENGTH <= room, 7)
-}
-
-fn invoked_replica(r: Replica, e: Operation) -> Replica
-    ensures { λ q. ⌜ q ≡ invokedReplica r e ⌝ }
-{
-    let mut n = r;
-    n.count = e.count;
-    n.current = e;
-    n
-}
-
-// Writes the invoke of an operation.
-fn write_message(r: Replica, e: Operation, out: &mut [u8])
-    requires { ⌜ (1 ≤ r .number) × (r .number ≤ clientCount) × (invokeLength ≤ length (now out)) ⌝ }
-    ensures { λ _. ⌜ now (out .exit) ≡ invokeMessage r e ++ drop invokeLength (now (out .entry)) ⌝ }
-{
-    let keys = r.keys;
-    let tag = verify::invoke_tag(keys, e, r.number);
-    message_write::write_invoke(
-        out,
-        Item {
-            op: e,
-            author: r.number,
-            tag,
-        },
-    );
-}
-
-// Invokes an operation (document 01: making an entry).
-pub fn invoke(r: Replica, kind: u8, cell: u8, amount: u8, out: &mut [u8]) -> Stepped
-    ensures { λ q. ⌜ (afterOf q ≡ invokeStep r kind cell amount (length (now (out .entry))) .after)
-        × (now (out .exit) ≡ over (invokeStep r kind cell amount (length (now (out .entry))) .wrote) (now (out .entry))) ⌝ }
-{
-    let no = invoke_check(r, kind, cell, amount, out.len());
-    if no != 0 {
-        return replica::stopped(r, no);
-    }
-    let count = r.count + 1;
-    let e = Operation {
-        count,
-        kind,
-        cell,
-        amount,
-        last: 0,
-    };
-    write_message(r, e, out);
-    let after = invoked_replica(r, e);
-    Stepped {
-        replica: after,
-        outcome: Outcome::Success(Event::Invoked(e.count)),
-    }
 }

@@ -128,6 +128,6 @@ pub fn decide(r: Replica, m: &[u8], n: usize) -> Verdict
     let own = t.own;
     Verdict {
         aborted: conflict::conflict(cells, others, t.n, own, t.m),
-        response: operation::response_on(current, operation::run_all(earlier, l.m, cells)),
+        response: operation_run::response_on(current, operation_run::run_all(earlier, l.m, cells)),
     }
 }

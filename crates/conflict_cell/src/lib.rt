@@ -34,14 +34,14 @@ pub fn conflict_at(
         let mut j = 0;
         while j < m {
             let w = own[j];
-            let expected = operation::response_to(w, u);
+            let expected = operation_run::response_to(w, u);
             conflict_marks::lay_out(&mut wide, &reach[j]);
             // Over the cell's values, entered only where a quick look says that one has another response.
-            if conflict_marks::any_other(&wide, w, u) {
+            if conflict_rows::any_other(&wide, w, u) {
                 let mut v: usize = 0;
                 while v < 256 {
                     if reach[j][v] {
-                        if operation::response_to(w, v as u8) != expected {
+                        if operation_run::response_to(w, v as u8) != expected {
                             break 'search;
                         }
                     }
@@ -49,15 +49,15 @@ pub fn conflict_at(
                 }
             }
             let at = conflict_marks::moved_from(w, expected == 1);
-            conflict_marks::run_into(&mut reach[j + 1], &wide, w, at);
-            u = operation::value_after(w, u);
+            conflict_rows::run_into(&mut reach[j + 1], &wide, w, at);
+            u = operation_run::value_after(w, u);
             j += 1;
         }
         if i == n {
             return false;
         }
         let o = others[i];
-        conflict_marks::widen(&mut reach, m, o);
+        conflict_rows::widen(&mut reach, m, o);
         i += 1;
     }
     true

@@ -4,7 +4,7 @@ ghost use Prim.Native.Nat.{ℕ, _+_, _<_, _≤_};
 ghost use mathlib.Core.Bool.{true};
 ghost use mathlib.Core.Logic.{_↔_};
 ghost use lib.ListN.{length};
-ghost use Rattle.conflict_marks.specs.Marks.{Has, Blank, Laid, Joined, Ran, movedFrom, SameSpan, Other, marksAt, Widened};
+ghost use Rattle.conflict_marks.specs.Marks.{Has, Blank, Laid, Joined, movedFrom, SameSpan};
 use operation::Operation;
 
 // Lays 256 marks out in the middle of 768 places; those below and above stay unmarked. So the marks of the values
@@ -22,7 +22,7 @@ pub fn lay_out(wide: &mut [bool; 768], marks: &[bool; 256])
 }
 
 // Whether one of the 256 places from `at` on is marked.
-fn any_marked(wide: &[bool; 768], at: usize) -> bool
+pub fn any_marked(wide: &[bool; 768], at: usize) -> bool
     requires { ⌜ at ≤ 512 ⌝ }
     ensures { λ r. ⌜ (r ≡ true) ↔ ((k : ℕ) × (k < 256) × Has (now (wide .entry)) (at + k)) ⌝ }
 {
@@ -36,7 +36,7 @@ fn any_marked(wide: &[bool; 768], at: usize) -> bool
 }
 
 // Adds the marks of the 256 places from `at` on.
-fn merge(into: &mut [bool; 256], wide: &[bool; 768], at: usize)
+pub fn merge(into: &mut [bool; 256], wide: &[bool; 768], at: usize)
     requires { ⌜ (at ≤ 512) × (length (now into) ≡ 256) ⌝ }
     ensures { λ _. ⌜ Joined 256 at (now (wide .entry)) (now (into .entry)) (now (into .exit)) ⌝ }
 {
@@ -45,22 +45,6 @@ fn merge(into: &mut [bool; 256], wide: &[bool; 768], at: usize)
         let y = into[v];
         into[v] = y | wide[at + v];
         v += 1;
-    }
-}
-
-// Adds what the operation makes of the marks laid out: a set's amount, if there is any mark; else the marks moved
-// alike, so that the one at `at` comes to 0.
-pub fn run_into(into: &mut [bool; 256], wide: &[bool; 768], e: Operation, at: usize)
-    requires { ⌜ (at ≤ 512) × (length (now into) ≡ 256) ⌝ }
-    ensures { λ _. ⌜ Ran e at (now (wide .entry)) (now (into .entry)) (now (into .exit)) ⌝ }
-{
-    if e.kind == 4 {
-        if any_marked(wide, 256) {
-            let a = e.amount as usize;
-            into[a] = true;
-        }
-    } else {
-        merge(into, wide, at);
     }
 }
 
@@ -81,13 +65,13 @@ pub fn moved_from(e: Operation, moves: bool) -> usize
 }
 
 // Values from `lo` up to `hi`.
-struct Span {
-    lo: usize,
-    hi: usize,
+pub struct Span {
+    pub lo: usize,
+    pub hi: usize,
 }
 
 // The values whose response is that of u.
-fn same_span(e: Operation, u: u8) -> Span
+pub fn same_span(e: Operation, u: u8) -> Span
     ensures { λ r. ⌜ SameSpan e u (r .lo) (r .hi) ⌝ }
 {
     let a = e.amount as usize;
@@ -111,34 +95,4 @@ fn same_span(e: Operation, u: u8) -> Span
         return Span { lo: v, hi: v + 1 };
     }
     Span { lo: 0, hi: 256 }
-}
-
-// A quick look: whether a value whose response is not that of u is marked, below the span of those with its response
-// or above it.
-pub fn any_other(wide: &[bool; 768], e: Operation, u: u8) -> bool
-    requires { ⌜ Blank (now wide) ⌝ }
-    ensures { λ r. ⌜ (r ≡ true) ↔ Other e u (now (wide .entry)) ⌝ }
-{
-    let same = same_span(e, u);
-    let below = any_marked(wide, same.lo);
-    let above = any_marked(wide, same.hi + 256);
-    below | above
-}
-
-// Adds to each of the first m + 1 what one of the others' operations makes of it. (A read makes nothing new.)
-pub fn widen(reach: &mut [[bool; 256]; 33], m: usize, e: Operation)
-    requires { ⌜ (m ≤ 32) × (length (now reach) ≡ 33) × ((j : ℕ) → j ≤ m → length (marksAt (now reach) j) ≡ 256) ⌝ }
-    ensures { λ _. ⌜ Widened m e (now (reach .entry)) (now (reach .exit)) ⌝ }
-{
-    if e.kind == 3 {
-        return;
-    }
-    let at = moved_from(e, true);
-    let mut wide = [false; 768];
-    let mut j = 0;
-    while j <= m {
-        lay_out(&mut wide, &reach[j]);
-        run_into(&mut reach[j], &wide, e, at);
-        j += 1;
-    }
 }

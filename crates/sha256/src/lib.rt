@@ -36,7 +36,7 @@ fn whole_blocks(s: State, m: &[u8]) -> State
     let mut q = s;
     let mut n: usize = 0;
     while n < count {
-        q = sha256_block::compress(q, m, 64 * n);
+        q = sha256_compress::compress(q, m, 64 * n);
         n += 1;
     }
     q
@@ -51,11 +51,11 @@ fn hash_from(s: State, before: usize, m: &[u8]) -> State
     let q = whole_blocks(s, m);
     let from = n / 64 * 64;
     let b = sha256_pad::last_blocks(&m[from..n], before + n);
-    let p = sha256_block::compress(q, &b, 0);
+    let p = sha256_compress::compress(q, &b, 0);
     if n % 64 < 56 {
         p
     } else {
-        sha256_block::compress(p, &b, 64)
+        sha256_compress::compress(p, &b, 64)
     }
 }
 
@@ -71,7 +71,7 @@ pub fn digest_of(m: &[u8]) -> [u8; 32]
 pub fn after_block(p: &[u8; 64]) -> State
     ensures { λ r. ⌜ r ≡ afterBlock (now (p .entry)) ⌝ }
 {
-    sha256_block::compress(initial_state(), p, 0)
+    sha256_compress::compress(initial_state(), p, 0)
 }
 
 // Inner form: the digest of a block that led to s, then m.

@@ -1,3 +1,2 @@
 pub mod Steps
 pub mod Schedule
-pub mod Rounds

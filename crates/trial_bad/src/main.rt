@@ -1,4 +1,4 @@
 // The trial program on lines of every other form.
 fn main() {
-    trial_io::run();
+    trial_run::run();
 }

@@ -1,4 +1,4 @@
 // The trial program on a drawn run.
 fn main() {
-    trial_io::run();
+    trial_run::run();
 }

@@ -1,0 +1,54 @@
+// Rows of marks moved by an operation, and the quick look before the search. Definitions: those of conflict_marks.
+ghost use mathlib.Core.Path.{_≡_};
+ghost use Prim.Native.Nat.{ℕ, _+_, _≤_};
+ghost use mathlib.Core.Bool.{true};
+ghost use mathlib.Core.Logic.{_↔_};
+ghost use lib.ListN.{length};
+ghost use Rattle.conflict_marks.specs.Marks.{Blank, Ran, Other, marksAt, Widened};
+use operation::Operation;
+
+// Adds what the operation makes of the marks laid out: a set's amount, if there is any mark; else the marks moved
+// alike, so that the one at `at` comes to 0.
+pub fn run_into(into: &mut [bool; 256], wide: &[bool; 768], e: Operation, at: usize)
+    requires { ⌜ (at ≤ 512) × (length (now into) ≡ 256) ⌝ }
+    ensures { λ _. ⌜ Ran e at (now (wide .entry)) (now (into .entry)) (now (into .exit)) ⌝ }
+{
+    if e.kind == 4 {
+        if conflict_marks::any_marked(wide, 256) {
+            let a = e.amount as usize;
+            into[a] = true;
+        }
+    } else {
+        conflict_marks::merge(into, wide, at);
+    }
+}
+
+// A quick look: whether a value whose response is not that of u is marked, below the span of those with its response
+// or above it.
+pub fn any_other(wide: &[bool; 768], e: Operation, u: u8) -> bool
+    requires { ⌜ Blank (now wide) ⌝ }
+    ensures { λ r. ⌜ (r ≡ true) ↔ Other e u (now (wide .entry)) ⌝ }
+{
+    let same = conflict_marks::same_span(e, u);
+    let below = conflict_marks::any_marked(wide, same.lo);
+    let above = conflict_marks::any_marked(wide, same.hi + 256);
+    below | above
+}
+
+// Adds to each of the first m + 1 what one of the others' operations makes of it. (A read makes nothing new.)
+pub fn widen(reach: &mut [[bool; 256]; 33], m: usize, e: Operation)
+    requires { ⌜ (m ≤ 32) × (length (now reach) ≡ 33) × ((j : ℕ) → j ≤ m → length (marksAt (now reach) j) ≡ 256) ⌝ }
+    ensures { λ _. ⌜ Widened m e (now (reach .entry)) (now (reach .exit)) ⌝ }
+{
+    if e.kind == 3 {
+        return;
+    }
+    let at = conflict_marks::moved_from(e, true);
+    let mut wide = [false; 768];
+    let mut j = 0;
+    while j <= m {
+        conflict_marks::lay_out(&mut wide, &reach[j]);
+        run_into(&mut reach[j], &wide, e, at);
+        j += 1;
+    }
+}

@@ -1,0 +1,76 @@
+use Prim.Native.Nat.{_+_, _-_, _≤_}
+use mathlib.Core.Path.{_≡_}
+use borrow.Author.Needs.{needs}
+use lib.ListN.{length}
+use Rattle.trial_run.proofs.whole_lines.Statement.{statement}
+use Rattle.trial_run.proofs.whole_lines.Tie as tie
+
+abbrev Inv-loop : tie.InvT-loop
+Inv-loop text out₀ log₀ replies₀ invokes₀ skipping trial₀ number₀ at₀ out log replies invokes trial number at =
+    (at ≤ length text) × (number ≤ number₀ + at) × (length out ≡ length out₀)
+
+abbrev μ-loop : tie.MeasureT-loop
+μ-loop text out₀ log₀ replies₀ invokes₀ skipping trial₀ number₀ at₀ out log replies invokes trial number at = length text - at
+
+loop-holds : tie.Need-loop-holds Inv-loop μ-loop
+loop-holds c = search needs
+
+sub-answers : tie.Need-sub-answers Inv-loop μ-loop
+sub-answers c = search needs
+
+part-answers-start : tie.Need-part-answers-start Inv-loop μ-loop
+part-answers-start c = search needs
+
+part-answers-end : tie.Need-part-answers-end Inv-loop μ-loop
+part-answers-end c = search needs
+
+answers-requires : tie.Need-answers-requires Inv-loop μ-loop
+answers-requires c κs = search needs
+
+print-requires : tie.Need-print-requires Inv-loop μ-loop
+print-requires c κs = search needs
+
+add-number : tie.Need-add-number Inv-loop μ-loop
+add-number c = search needs
+
+same-length : tie.Need-same-length Inv-loop μ-loop
+same-length c = search needs
+
+returns : tie.Need-returns Inv-loop μ-loop
+returns c = search needs
+
+add-at : tie.Need-add-at Inv-loop μ-loop
+add-at c = search needs
+
+loop-less : tie.Need-loop-less Inv-loop μ-loop
+loop-less c = search needs
+
+loop-again : tie.Need-loop-again Inv-loop μ-loop
+loop-again c = search needs
+
+same-length-2 : tie.Need-same-length-2 Inv-loop μ-loop
+same-length-2 c = search needs
+
+returns-2 : tie.Need-returns-2 Inv-loop μ-loop
+returns-2 c = search needs
+
+pub whole-lines-spec : {M : Type 1} → statement M
+whole-lines-spec =
+    tie.close
+    (tie.spec
+    Inv-loop
+    μ-loop
+    loop-holds
+    sub-answers
+    part-answers-start
+    part-answers-end
+    answers-requires
+    print-requires
+    add-number
+    same-length
+    returns
+    add-at
+    loop-less
+    loop-again
+    same-length-2
+    returns-2)
