@@ -1,4 +1,4 @@
 // The trial program on document 01's input.
 fn main() {
-    trial_run::run();
+    trial_io::run();
 }

@@ -1,4 +1,4 @@
 // The trial program on lines of every other form.
 fn main() {
-    trial_run::run();
+    trial_io::run();
 }

@@ -1,4 +1,4 @@
 // The trial program on a drawn run.
 fn main() {
-    trial_run::run();
+    trial_io::run();
 }

@@ -1,4 +1,4 @@
 // The trial program on 256 broadcasts that clients have not taken.
 fn main() {
-    trial_run::run();
+    trial_io::run();
 }

@@ -1,4 +1,4 @@
 // The trial program on 32 pending operations, refused invokes, and their placing later.
 fn main() {
-    trial_run::run();
+    trial_io::run();
 }

@@ -1,8 +1,8 @@
 use native.Mathlib.Omega.{arith}
 use lib.ListN.{length-take, length-drop}
 use borrow.Author.Needs.{needs}
-use Rattle.trial_run.proofs.lines.Statement.{statement}
-use Rattle.trial_run.proofs.lines.Tie as tie
+use Rattle.trial_io.proofs.lines.Statement.{statement}
+use Rattle.trial_io.proofs.lines.Tie as tie
 
 skip-requires : tie.Need-skip-requires
 skip-requires c κs = search needs

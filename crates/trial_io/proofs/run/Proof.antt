@@ -2,8 +2,8 @@ use Prim.Native.Nat.{_+_, _≤_, _<_}
 use mathlib.Core.Path.{_≡_}
 use borrow.Author.Needs.{needs}
 use lib.ListN.{length}
-use Rattle.trial_run.proofs.run.Statement.{statement}
-use Rattle.trial_run.proofs.run.Tie as tie
+use Rattle.trial_io.proofs.run.Statement.{statement}
+use Rattle.trial_io.proofs.run.Tie as tie
 
 abbrev Inv-loop : tie.InvT-loop
 Inv-loop buf₀ out₀ log₀ replies₀ invokes₀ state₀ held₀ left₀ buf out log replies invokes state held left =

@@ -2,8 +2,8 @@ use Prim.Native.Nat.{_+_, _-_, _≤_}
 use mathlib.Core.Path.{_≡_}
 use borrow.Author.Needs.{needs}
 use lib.ListN.{length}
-use Rattle.trial_run.proofs.whole_lines.Statement.{statement}
-use Rattle.trial_run.proofs.whole_lines.Tie as tie
+use Rattle.trial_io.proofs.whole_lines.Statement.{statement}
+use Rattle.trial_io.proofs.whole_lines.Tie as tie
 
 abbrev Inv-loop : tie.InvT-loop
 Inv-loop text out₀ log₀ replies₀ invokes₀ skipping trial₀ number₀ at₀ out log replies invokes trial number at =
