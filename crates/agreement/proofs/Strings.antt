@@ -23,7 +23,7 @@ use Rattle.client_reply.specs.Reply.{chainAfter, isAborted}
 use Rattle.client_laws.proofs.Chain.{item-taken, last-current}
 use Rattle.client_laws.proofs.Reply.{reply-sized, replied-chain, last-seq}
 use Rattle.client_laws.proofs.Broadcast.{broadcast-digest, next-length}
-use Rattle.agreement.specs.WholeRuns.{caller, Logged, took, allOf, itemStrings, broadcastString, strings, itemTag, itemTags, broadcastTag, tags}
+use Rattle.agreement.specs.WholeRuns.{caller, Logged, took, allOf, itemStrings, broadcastString, strings, itemCarried, itemTags, broadcastCarried, tags}
 use Rattle.agreement.proofs.Trace.{Com, Ev, commit, confirm, onto}
 use Rattle.agreement.proofs.Confirm.{confirms}
 use Rattle.agreement.proofs.Runs.{Ready, Fine}
@@ -50,7 +50,7 @@ in-items r m (suc n) j h =
     (λ (l : j < n). Memᴰ·append-left _ (in-items r m n j l))
     (eq-or-lt-of-le (le-of-suc-le-suc h))
 
-pub in-tags : (m : List ℕ) (n j : ℕ) → j < n → List·Memᴰ (itemTag (replyItem m j)) (itemTags m n)
+pub in-tags : (m : List ℕ) (n j : ℕ) → j < n → List·Memᴰ (itemCarried (replyItem m j)) (itemTags m n)
 unfolding itemTags
 in-tags m zero j h = absurd (omega arith)
 in-tags m (suc n) j h =
@@ -156,7 +156,7 @@ module _ (keys : List ℕ) (log : List Logged) (F : (e : Logged) → List·Mem�
     pub commit-of : commitOf (took event) ≡ k
     pub passed : broadcastNo (event .before) (took event) ≡ 0
     pub strs : strings event ≡ broadcastString (event .before) (commitOf (took event)) ∷ []
-    pub tgs : tags event ≡ broadcastTag (commitOf (took event)) ∷ []
+    pub tgs : tags event ≡ broadcastCarried (commitOf (took event)) ∷ []
     pub ready : Ready keys (caller (event .call)) (event .before)
 
   pub confirm-is : {i : ℕ} {v : List ℕ} {k : Commit} {cells : List ℕ} {o : List Ev} → Split log [] (confirm i v k cells) o → Confirms v k o

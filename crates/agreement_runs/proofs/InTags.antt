@@ -18,7 +18,7 @@ use Rattle.verify.proofs.Laws.{invoke-tag-length}
 use Rattle.replica.specs.Outcome.{responded}
 use Rattle.client_broadcast.specs.Broadcast.{confirmedReplica}
 use Rattle.client_reply.specs.Reply.{repliedReplica}
-use Rattle.agreement.specs.WholeRuns.{Call, invoke, receive, caller, messageOf, start, update, Logged, logOf, allOf, taken, Confirmation, entryOf, history, entries, answer, Got, runEntries, due, strings, Carried, itemTag, tags, tagBy, Tagged, LetOff, forgery, Agreement}
+use Rattle.agreement.specs.WholeRuns.{Call, invoke, receive, caller, messageOf, start, update, Logged, logOf, allOf, taken, Confirmation, entryOf, history, entries, answer, Got, runEntries, due, strings, Carried, itemCarried, tags, tagBy, Tagged, LetOff, forgery, Agreement}
 use Rattle.agreement.proofs.Events.{made-wrote}
 use Rattle.agreement.proofs.Taggers.{front-same, tag-long}
 use Rattle.agreement_runs.proofs.Shown.{Good, end, next, good-strings, good-tags, distinct, Run, done, call, run-is}
@@ -109,8 +109,8 @@ module _ (keys : List ℕ) (L : length keys ≡ 256) where
   off : LetOff keys (log keys)
   unfolding invokeTag tagBy
   off =
-      forgery (e₁ keys ∷ []) (rest keys) (e₂ keys) (itemTag (iB keys)) refl
-      (subst (λ (l : List Carried). List·Memᴰ (itemTag (iB keys)) l) (sym (two-tags (a₁ keys) (iB keys) (iA keys) (fB keys) (fA keys) 1 false 0)) (List·Memᴰ·head refl))
+      forgery (e₁ keys ∷ []) (rest keys) (e₂ keys) (itemCarried (iB keys)) refl
+      (subst (λ (l : List Carried). List·Memᴰ (itemCarried (iB keys)) l) (sym (two-tags (a₁ keys) (iB keys) (iA keys) (fB keys) (fA keys) 1 false 0)) (List·Memᴰ·head refl))
       refl not-yet
 
   -- ---- and by nothing else
@@ -123,7 +123,7 @@ module _ (keys : List ℕ) (L : length keys ≡ 256) where
   first : {e : Logged} {l : List Logged} → List·Memᴰ e (e ∷ l)
   first = List·Memᴰ·head refl
 
-  good : Good (λ older x. Tagged keys older (x .author) (x .string) ⊎ (x ≡ itemTag (iB keys))) (S₁ ∷ S₂ ∷ []) [] (log keys)
+  good : Good (λ older x. Tagged keys older (x .author) (x .string) ⊎ (x ≡ itemCarried (iB keys))) (S₁ ∷ S₂ ∷ []) [] (log keys)
   unfolding repliedReplica
   good =
       next made-shows
@@ -165,7 +165,7 @@ pub record Early (keys : List ℕ) : Type 0 where
   pub digests : (s t : List ℕ) → List·Memᴰ s (allOf strings (logOf keys calls)) → List·Memᴰ t (allOf strings (logOf keys calls)) → sha256 s ≡ sha256 t → s ≡ t
   -- a tag that had not been made before is that of client 1's second operation
   pub others : (older newer : List Logged) (e : Logged) (x : Carried) → logOf keys calls ≡ older ++ (e ∷ newer) → List·Memᴰ x (tags e)
-      → Tagged keys older (x .author) (x .string) ⊎ (x ≡ itemTag (iB keys))
+      → Tagged keys older (x .author) (x .string) ⊎ (x ≡ itemCarried (iB keys))
   -- which client 1 makes later
   pub later : Tagged keys (logOf keys calls) 1 (invokeString oB 1)
 

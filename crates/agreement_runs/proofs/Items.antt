@@ -22,7 +22,7 @@ use Rattle.client_reply_check.specs.ReplyChecks.{itemValue, itemChecks, lastOk,
 use Rattle.client_reply.specs.Reply.{chainAfter, sortItem, sortTo, isAborted, lastResponse}
 use Rattle.client_laws.proofs.Chain.{item-taken, values-stay}
 use Rattle.client_laws.proofs.Passes.{reply-passes}
-use Rattle.agreement.specs.WholeRuns.{messageOf, Logged, itemStrings, strings, Carried, itemTag, itemTags, tags}
+use Rattle.agreement.specs.WholeRuns.{messageOf, Logged, itemStrings, strings, Carried, itemCarried, itemTags, tags}
 use Rattle.agreement.proofs.Events.{taken-reply}
 use Rattle.agreement_runs.proofs.Shown as S
 use Rattle.agreement_runs.proofs.Shown.{Shows}
@@ -62,7 +62,7 @@ module _ (r : Replica) (i : Item) (f : ItemFits i) where
         ∙ (λ t. linkValue (values-stay r one 80 z (s .chain) 0 (omega arith) t) (one-item t .op) (r .confirmed + 1) (one-item t .author))
 
     pub one-shows : {P : List Logged → Carried → Type 0} {Ss : List (List ℕ)} {older : List Logged} (n : ℕ) (a : Bool) (x : Response)
-        → List·Memᴰ (chainString (valueAt (r .confirmed) 0 (r .chain)) (i .op) (r .confirmed + 1) (i .author)) Ss → P older (itemTag i)
+        → List·Memᴰ (chainString (valueAt (r .confirmed) 0 (r .chain)) (i .op) (r .confirmed + 1) (i .author)) Ss → P older (itemCarried i)
         → Shows P Ss older (replyEvent n r (i ∷ []) 1 a x)
     unfolding strings tags messageOf replyBytes itemStrings itemTags
     one-shows n a x h p =
@@ -72,8 +72,8 @@ module _ (r : Replica) (i : Item) (f : ItemFits i) where
               taken-reply a x (r .confirmed + 1) _ _
               ∙ (λ t. chainString (values-stay r one 80 z (s .chain) 0 (omega arith) t) (one-item t .op) (r .confirmed + 1) (one-item t .author) ∷ []);
           known = S.more h S.none;
-          xs = itemTag i ∷ [];
-          tgs = taken-reply a x (r .confirmed + 1) _ _ ∙ ap (λ (i : Item). itemTag i ∷ []) one-item;
+          xs = itemCarried i ∷ [];
+          tgs = taken-reply a x (r .confirmed + 1) _ _ ∙ ap (λ (i : Item). itemCarried i ∷ []) one-item;
           each = S.more p S.none;
         }
 
@@ -121,9 +121,9 @@ module _ (r : Replica) (i j : Item) (f : ItemFits i) (g : ItemFits j) where
   two-response =
       ap (λ (i : Item). responseOn (r .current) (runAll (sortItem (r .confirmed) (r .number) (r .statuses) 0 i (record { others = []; own = [] }) .own) (r .cells))) first-item
 
-  pub two-tags : (n : ℕ) (a : Bool) (x : Response) → tags (replyEvent n r (i ∷ j ∷ []) 2 a x) ≡ itemTag i ∷ itemTag j ∷ []
+  pub two-tags : (n : ℕ) (a : Bool) (x : Response) → tags (replyEvent n r (i ∷ j ∷ []) 2 a x) ≡ itemCarried i ∷ itemCarried j ∷ []
   unfolding tags messageOf replyBytes itemTags
-  two-tags n a x = taken-reply a x (r .confirmed + 2) _ _ ∙ (λ t. itemTag (first-item t) ∷ itemTag (second-item t) ∷ [])
+  two-tags n a x = taken-reply a x (r .confirmed + 2) _ _ ∙ (λ t. itemCarried (first-item t) ∷ itemCarried (second-item t) ∷ [])
 
   module _ (z : replyNo r (replyBytes (i ∷ j ∷ [])) 80 ≡ 0) (s : Sized r) where
     pub two-first : valueAt (r .confirmed) 1 (chainAfter r (replyBytes (i ∷ j ∷ []))) ≡ linkValue (valueAt (r .confirmed) 0 (r .chain)) (i .op) (r .confirmed + 1) (i .author)
@@ -142,7 +142,7 @@ module _ (r : Replica) (i j : Item) (f : ItemFits i) (g : ItemFits j) where
     pub two-shows : {P : List Logged → Carried → Type 0} {Ss : List (List ℕ)} {older : List Logged} (n : ℕ) (a : Bool) (x : Response)
         → List·Memᴰ (chainString (valueAt (r .confirmed) 0 (r .chain)) (i .op) (r .confirmed + 1) (i .author)) Ss
         → List·Memᴰ (chainString (linkValue (valueAt (r .confirmed) 0 (r .chain)) (i .op) (r .confirmed + 1) (i .author)) (j .op) (r .confirmed + 2) (j .author)) Ss
-        → P older (itemTag i) → P older (itemTag j) → Shows P Ss older (replyEvent n r (i ∷ j ∷ []) 2 a x)
+        → P older (itemCarried i) → P older (itemCarried j) → Shows P Ss older (replyEvent n r (i ∷ j ∷ []) 2 a x)
     unfolding strings tags messageOf replyBytes itemStrings itemTags
     two-shows n a x h h′ p p′ =
         record {
@@ -153,7 +153,7 @@ module _ (r : Replica) (i j : Item) (f : ItemFits i) (g : ItemFits j) where
               ∙ (λ t. chainString (values-stay r two 80 z (s .chain) 0 (omega arith) t) (first-item t .op) (r .confirmed + 1) (first-item t .author)
               ∷ chainString (two-first t) (second-item t .op) (r .confirmed + 2) (second-item t .author) ∷ []);
           known = S.more h (S.more h′ S.none);
-          xs = itemTag i ∷ itemTag j ∷ [];
+          xs = itemCarried i ∷ itemCarried j ∷ [];
           tgs = two-tags n a x;
           each = S.more p (S.more p′ S.none);
         }

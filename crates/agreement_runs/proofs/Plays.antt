@@ -31,7 +31,7 @@ use Rattle.client_laws.proofs.Reply.{reply-sound}
 use Rattle.client_laws.proofs.Broadcast.{broadcast-sound}
 use Rattle.client_laws.proofs.Passes.{broadcast-passes}
 use Rattle.client.specs.Receive.{receiveStep}
-use Rattle.agreement.specs.WholeRuns.{Call, invoke, receive, stepOf, messageOf, start, Logged, taken, broadcastString, strings, Carried, broadcastTag, tags}
+use Rattle.agreement.specs.WholeRuns.{Call, invoke, receive, stepOf, messageOf, start, Logged, taken, broadcastString, strings, Carried, broadcastCarried, tags}
 use Rattle.agreement.proofs.Steps.{invokedStep}
 use Rattle.agreement_runs.proofs.Shown.{none, more, Shows}
 
@@ -126,14 +126,14 @@ module _ (r : Replica) (k : Commit) (f : CommitFits k) where
       ∙ ap (λ (k : Commit). record { after = record { replica = confirmedReplica r k; says = confirmed (k .seq) (k .status) }; wrote = [] }) (broadcast-read k f)
 
   pub confirm-shows : {P : List Logged → Carried → Type 0} {Ss : List (List ℕ)} {older : List Logged} (i : ℕ)
-      → List·Memᴰ (broadcastString r k) Ss → P older (broadcastTag k) → Shows P Ss older (confirmEvent i r k)
+      → List·Memᴰ (broadcastString r k) Ss → P older (broadcastCarried k) → Shows P Ss older (confirmEvent i r k)
   unfolding strings tags taken messageOf
   confirm-shows i s p =
       record {
         ss = broadcastString r k ∷ [];
         strs = ap (λ (k : Commit). broadcastString r k ∷ []) (broadcast-read k f);
         known = more s none;
-        xs = broadcastTag k ∷ [];
-        tgs = ap (λ (k : Commit). broadcastTag k ∷ []) (broadcast-read k f);
+        xs = broadcastCarried k ∷ [];
+        tgs = ap (λ (k : Commit). broadcastCarried k ∷ []) (broadcast-read k f);
         each = more p none;
       }

@@ -18,7 +18,7 @@ use Rattle.replica.specs.Replica.{Step}
 use Rattle.checks.proofs.Laws.{Yes}
 use Rattle.client_broadcast.specs.Broadcast.{broadcastStep}
 use Rattle.client_reply_check.specs.ReplyChecks.{listedOk, itemChainOk, itemChecks, replyNo}
-use Rattle.client_reply.specs.Reply.{chainAfter, isAborted, lastResponse, saysOf, status, repliedReplica, commitMessage, replyDone, replyStep}
+use Rattle.client_reply.specs.Reply.{chainAfter, isAborted, lastResponse, saysOf, status, repliedReplica, commitMessage, replySuccess, replyStep}
 use Rattle.client_laws.proofs.Reply.{reply-done}
 use Rattle.client.specs.Receive.{receiveStep}
 use Rattle.agreement.specs.WholeRuns.{receive, stepOf, Logged, taken, tagBy}
@@ -50,7 +50,7 @@ replyEvent i r is n a x = record { call = receive i (replyBytes is) 80; before =
 pub reply-step : (i : ℕ) (r : Replica) (is : List Item) (n : ℕ) (a : Bool) (x : Response) → isReply (replyBytes is) ≡ true → replyNo r (replyBytes is) 80 ≡ 0
     → replyCount (replyBytes is) ≡ n → isAborted r (replyBytes is) ≡ a → lastResponse r (replyBytes is) ≡ x
     → stepOf r (receive i (replyBytes is) 80) ≡ replyEvent i r is n a x .step
-unfolding stepOf receiveStep replyDone
+unfolding stepOf receiveStep replySuccess
 reply-step i r is n a x f z c d e =
     let m = replyBytes is in
     ap (λ (b : Bool). cond b (replyStep r m 80) (record { after = broadcastStep r m; wrote = [] })) f

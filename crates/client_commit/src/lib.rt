@@ -108,7 +108,7 @@ pub fn says(v: Verdict, seq: u32) -> Event
 }
 
 // Writes the commit; the client's tags start from `own`.
-pub fn write_message(
+pub fn write_own_commit(
     r: Replica,
     own: Keyed,
     chain: [u8; replica::CHAIN_LENGTH],

@@ -16,7 +16,7 @@ use Rattle.checks.proofs.Laws.{Yes}
 use Rattle.client_invoke.specs.Invoke.{invokeChecks, invokeNo}
 use Rattle.client_broadcast.specs.Broadcast as B
 use Rattle.client_broadcast.specs.Broadcast.{commitOk, seqOk, digestOk, contentChecks, proofChecks, broadcastNo}
-use Rattle.client_reply_check.specs.ReplyChecks.{formChecks, itemChecks, itemsChecks, lastChecks, lastOk, replyNo}
+use Rattle.client_reply_check.specs.ReplyChecks.{replyFormChecks, itemChecks, itemsChecks, lastChecks, lastOk, replyNo}
 
 pub yes-first : (qs : List (Bool × ℕ)) → Yes qs → firstNo 0 qs ≡ 0
 yes-first [] y = refl
@@ -41,8 +41,8 @@ pub reply-passes : (r : Replica) (m : List ℕ) (room : ℕ) → inRange r ≡ t
     → ((k : ℕ) → k < replyCount m → Yes (itemChecks r (replyCount m) k (replyItem m k))) → lastOk r m ≡ true → replyNo r m room ≡ 0
 unfolding replyNo
 reply-passes r m room a b c d y l =
-    yes-first (formChecks r m room ++ (itemsChecks r m (replyCount m) ++ lastChecks r m))
-    (yes-append (formChecks r m room) (itemsChecks r m (replyCount m) ++ lastChecks r m)
+    yes-first (replyFormChecks r m room ++ (itemsChecks r m (replyCount m) ++ lastChecks r m))
+    (yes-append (replyFormChecks r m room) (itemsChecks r m (replyCount m) ++ lastChecks r m)
     (a, (eq-eqb (r .halt) 0 b, (c, (le-leb 80 room d, tt))))
     (yes-append (itemsChecks r m (replyCount m)) (lastChecks r m) (items-pass r m (replyCount m) y) (l, tt)))
 

@@ -16,7 +16,7 @@ use Rattle.replica.proofs.Places.{unused-more, hold-unused, status-put, status-
 use Rattle.replica.specs.Replica.{Step, inRange, stopStep}
 use Rattle.checks.proofs.Laws.{cond-cases, call-cases}
 use Rattle.replica.proofs.Laws.{ranged, in-range, Sized, Sound, stop-sound}
-use Rattle.client_reply.specs.Reply.{chainTo, chainAfter, isAborted, heldStatus, larger, repliedReplica, replyDone, replyStep}
+use Rattle.client_reply.specs.Reply.{chainTo, chainAfter, isAborted, heldStatus, larger, repliedReplica, replySuccess, replyStep}
 use Rattle.client_reply_check.specs.ReplyChecks.{itemValue, replyNo}
 use Rattle.client_reply_check.proofs.Laws.{Formed, form-yes, reply-formed, last-passed, last-yes}
 use Rattle.client_laws.proofs.Chain.{le-or-lt, item-value-length, held-item, new-item, chain-length, item-taken}
@@ -145,7 +145,7 @@ module _ (r : Replica) (m : List ℕ) (room : ℕ) (e : replyNo r m room ≡ 0) 
 
 -- ---- the call
 module _ (r : Replica) (m : List ℕ) (room : ℕ) where
-  pub reply-done : replyNo r m room ≡ 0 → replyStep r m room ≡ replyDone r m
+  pub reply-done : replyNo r m room ≡ 0 → replyStep r m room ≡ replySuccess r m
   unfolding replyStep
   reply-done e = rw e
 
@@ -155,10 +155,10 @@ module _ (r : Replica) (m : List ℕ) (room : ℕ) where
 
 -- it keeps both, whatever it is given
 pub reply-sound : (r : Replica) (m : List ℕ) (room : ℕ) → Sound r → Sound (replyStep r m room .after .replica)
-unfolding replyStep replyDone
+unfolding replyStep replySuccess
 reply-sound r m room s =
     let n = replyNo r m room in
     let l = s .sized .chain in
-    call-cases (λ (x : Step). Sound (x .after .replica)) n (replyDone r m) (stopStep r n)
+    call-cases (λ (x : Step). Sound (x .after .replica)) n (replySuccess r m) (stopStep r n)
     (λ z. record { range = reply-in-range r m room z l; sized = reply-sized r m room z l (s .sized) })
     (stop-sound r n s)

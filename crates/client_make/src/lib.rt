@@ -23,7 +23,7 @@ fn invoked_replica(r: Replica, e: Operation) -> Replica
 }
 
 // Writes the invoke of an operation.
-fn write_message(r: Replica, e: Operation, out: &mut [u8])
+fn write_own_invoke(r: Replica, e: Operation, out: &mut [u8])
     requires { ⌜ (1 ≤ r .number) × (r .number ≤ clientCount) × (invokeLength ≤ length (now out)) ⌝ }
     ensures { λ _. ⌜ now (out .exit) ≡ invokeMessage r e ++ drop invokeLength (now (out .entry)) ⌝ }
 {
@@ -56,7 +56,7 @@ pub fn invoke(r: Replica, kind: u8, cell: u8, amount: u8, out: &mut [u8]) -> Ste
         amount,
         last: 0,
     };
-    write_message(r, e, out);
+    write_own_invoke(r, e, out);
     let after = invoked_replica(r, e);
     Stepped {
         replica: after,

@@ -20,7 +20,7 @@ use Rattle.replica.specs.declared.Replica.{Replica}
 use Rattle.replica.specs.Places.{valueAt, statusAt}
 use Rattle.replica.specs.Replica.{Step, over, stop}
 use Rattle.client_reply_check.specs.ReplyChecks.{replyNo}
-use Rattle.client_reply.specs.Reply.{chainAfter, Sorted, sortItem, sortTo, isAborted, lastResponse, lastSeq, saysOf, status, repliedReplica, commitMessage, replyDone, replyStep}
+use Rattle.client_reply.specs.Reply.{chainAfter, Sorted, sortItem, sortTo, isAborted, lastResponse, lastSeq, saysOf, status, repliedReplica, commitMessage, replySuccess, replyStep}
 
 -- ---- the two lists
 module _ (c number : ℕ) (statuses : List ℕ) (k : ℕ) (i : Item) (s : Sorted) where
@@ -66,7 +66,7 @@ module _ (r : Replica) (m out : List ℕ) where
       → length (commitMessage r chain (replyCount m) a) ≡ 80
       → (record { replica = repliedReplica r chain (replyCount m) a; says = saysOf a x (lastSeq r m) } ≡ step .after)
       × (commitMessage r chain (replyCount m) a ++ drop 80 out ≡ over (step .wrote) out)
-  unfolding replyStep replyDone
+  unfolding replyStep replySuccess
   reply-goes e chain a x f g h l =
       let k : length (commitMessage r (chainAfter r m) (replyCount m) (isAborted r m)) ≡ 80 = rw (f, g) at l in
       (rw (f, g, h, e), rw (e, k, f, g))

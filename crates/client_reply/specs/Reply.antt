@@ -102,8 +102,8 @@ commitMessage r chain n a =
     })
 
 -- ---- the step
-unfoldable pub replyDone : Replica → List ℕ → Step
-replyDone r m =
+unfoldable pub replySuccess : Replica → List ℕ → Step
+replySuccess r m =
     record {
       after = record {
         replica = repliedReplica r (chainAfter r m) (replyCount m) (isAborted r m);
@@ -113,4 +113,4 @@ replyDone r m =
     }
 
 unfoldable pub replyStep : Replica → List ℕ → ℕ → Step
-replyStep r m room = cond (eqb (replyNo r m room) 0) (replyDone r m) (stopStep r (replyNo r m room))
+replyStep r m room = cond (eqb (replyNo r m room) 0) (replySuccess r m) (stopStep r (replyNo r m room))

@@ -18,7 +18,7 @@ use Rattle.checks.proofs.Laws.{first-stays, first-append, first-zero, all-yes, 
 use Rattle.replica.specs.Outcome.{isStop}
 use Rattle.replica.specs.Replica.{inRange}
 use Rattle.replica.proofs.Laws.{ranged}
-use Rattle.client_reply_check.specs.ReplyChecks.{seqAt, listedOk, itemChecks, proofChecks, itemsChecks, lastItem, lastOk, formChecks, lastChecks, replyNo}
+use Rattle.client_reply_check.specs.ReplyChecks.{seqAt, listedOk, itemChecks, itemProofChecks, itemsChecks, lastItem, lastOk, replyFormChecks, lastChecks, replyNo}
 
 -- ---- an item's checks
 pub record ItemAllowed (c k : ℕ) (i : Item) : Type 0 where
@@ -34,7 +34,7 @@ item-allowed c k i e =
     record { op = y .0; low = leb-true _ _ (y .1 .0); high = leb-true _ _ (y .1 .1 .0); seq = leb-true _ _ (y .1 .1 .1 .0) }
 
 module _ (r : Replica) (n k : ℕ) (i : Item) where
-  pub item-goes : listedOk (r .confirmed) k i ≡ true → firstNo 0 (proofChecks r k i) ≡ firstNo 0 (itemChecks r n k i)
+  pub item-goes : listedOk (r .confirmed) k i ≡ true → firstNo 0 (itemProofChecks r k i) ≡ firstNo 0 (itemChecks r n k i)
   item-goes e = rw e
 
   pub item-stops : listedOk (r .confirmed) k i ≡ false → 21 ≡ firstNo 0 (itemChecks r n k i)
@@ -76,9 +76,9 @@ pub record Formed (r : Replica) (m : List ℕ) (room : ℕ) : Type 0 where
   pub enough : 80 ≤ room
 
 module _ (r : Replica) (m : List ℕ) (room : ℕ) where
-  pub form-yes : firstNo 0 (formChecks r m room) ≡ 0 → Formed r m room
+  pub form-yes : firstNo 0 (replyFormChecks r m room) ≡ 0 → Formed r m room
   form-yes e =
-      let y = all-yes 0 (formChecks r m room) (refl, (refl, (refl, (refl, tt)))) e .1 in
+      let y = all-yes 0 (replyFormChecks r m room) (refl, (refl, (refl, (refl, tt)))) e .1 in
       let g = ranged r (y .0) in
       record {
         range = y .0;
@@ -92,25 +92,25 @@ module _ (r : Replica) (m : List ℕ) (room : ℕ) where
         enough = leb-true _ _ (y .1 .1 .1 .0);
       }
 
-  pub form-stops : eqb (firstNo 0 (formChecks r m room)) 0 ≡ false → firstNo 0 (formChecks r m room) ≡ replyNo r m room
+  pub form-stops : eqb (firstNo 0 (replyFormChecks r m room)) 0 ≡ false → firstNo 0 (replyFormChecks r m room) ≡ replyNo r m room
   unfolding replyNo
-  form-stops e = sym (first-stays (firstNo 0 (formChecks r m room)) (rest r m) e)
+  form-stops e = sym (first-stays (firstNo 0 (replyFormChecks r m room)) (rest r m) e)
 
-  pub rest-decides : firstNo 0 (formChecks r m room) ≡ 0 → (q : ℕ) (l : Bool)
+  pub rest-decides : firstNo 0 (replyFormChecks r m room) ≡ 0 → (q : ℕ) (l : Bool)
       → q ≡ firstNo 0 (itemsChecks r m (replyCount m)) → l ≡ lastOk r m → alsoNo q (l, 24) ≡ replyNo r m room
   unfolding replyNo
   rest-decides e q l f g =
       rw (f, g) (sym (ap (λ (n : ℕ). firstNo n (rest r m)) e ∙ first-append 0 (itemsChecks r m (replyCount m)) (lastChecks r m)))
 
-  pub reply-formed : replyNo r m room ≡ 0 → firstNo 0 (formChecks r m room) ≡ 0
+  pub reply-formed : replyNo r m room ≡ 0 → firstNo 0 (replyFormChecks r m room) ≡ 0
   unfolding replyNo
-  reply-formed e = first-zero (firstNo 0 (formChecks r m room)) (rest r m) e
+  reply-formed e = first-zero (firstNo 0 (replyFormChecks r m room)) (rest r m) e
 
   -- each item's checks are passed
   pub items-passed : replyNo r m room ≡ 0 → firstNo 0 (itemsChecks r m (replyCount m)) ≡ 0
   unfolding replyNo
   items-passed e =
-      let n = firstNo 0 (formChecks r m room) in
+      let n = firstNo 0 (replyFormChecks r m room) in
       let z : n ≡ 0 = first-zero n (rest r m) e in
       ap (λ (x : ℕ). firstNo x (itemsChecks r m (replyCount m))) (sym z)
       ∙ first-zero (firstNo n (itemsChecks r m (replyCount m))) (lastChecks r m) (sym (first-append n (itemsChecks r m (replyCount m)) (lastChecks r m)) ∙ e)
@@ -118,7 +118,7 @@ module _ (r : Replica) (m : List ℕ) (room : ℕ) where
   pub last-passed : replyNo r m room ≡ 0 → lastOk r m ≡ true
   unfolding replyNo
   last-passed e =
-      let n = firstNo 0 (formChecks r m room) in
+      let n = firstNo 0 (replyFormChecks r m room) in
       all-yes (firstNo n (itemsChecks r m (replyCount m))) (lastChecks r m) (refl, tt) (sym (first-append n (itemsChecks r m (replyCount m)) (lastChecks r m)) ∙ e) .1 .0
 
 -- a no has one of the numbers of a client's checks
@@ -131,7 +131,7 @@ pub reply-stop : (r : Replica) (m : List ℕ) (room : ℕ) → eqb (replyNo r m 
 unfolding replyNo
 reply-stop r m room e =
     let l = among-append isStop (itemsChecks r m (replyCount m)) (lastChecks r m) (items-among r m (replyCount m)) (refl, tt) in
-    first-among isStop 0 (formChecks r m room ++ rest r m) (λ z. absurd (true≢false z)) (refl, (refl, (refl, (refl, l)))) e
+    first-among isStop 0 (replyFormChecks r m room ++ rest r m) (λ z. absurd (true≢false z)) (refl, (refl, (refl, (refl, l)))) e
 
 -- what the last check settles
 pub record Last (r : Replica) (m : List ℕ) : Type 0 where

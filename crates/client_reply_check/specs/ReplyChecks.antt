@@ -32,11 +32,11 @@ unfoldable pub itemChainOk : ℕ → ℕ → List ℕ → ℕ → Item → Bool
 itemChainOk c held chain k i = cond (ltb k held) (same (itemValue c k i chain) (valueAt c (k + 1) chain)) true
 
 -- "item by item": 21; 22 ("Tag right?"), 23. Of item k of n.
-abbrev pub proofChecks : Replica → ℕ → Item → List (Bool × ℕ)
-proofChecks r k i = (itemTagOk (r .keys) i, 22) ∷ (itemChainOk (r .confirmed) (r .held) (r .chain) k i, 23) ∷ []
+abbrev pub itemProofChecks : Replica → ℕ → Item → List (Bool × ℕ)
+itemProofChecks r k i = (itemTagOk (r .keys) i, 22) ∷ (itemChainOk (r .confirmed) (r .held) (r .chain) k i, 23) ∷ []
 
 abbrev pub itemChecks : Replica → ℕ → ℕ → Item → List (Bool × ℕ)
-itemChecks r n k i = (listedOk (r .confirmed) k i, 21) ∷ proofChecks r k i
+itemChecks r n k i = (listedOk (r .confirmed) k i, 21) ∷ itemProofChecks r k i
 
 -- those of the first k items
 unfoldable pub itemsChecks : Replica → List ℕ → ℕ → List (Bool × ℕ)
@@ -55,12 +55,12 @@ lastOk r m = every true (leb 1 (replyCount m) ∷ sameOp (lastItem m .op) (r .cu
 abbrev pub markChecks : Replica → List ℕ → List (Bool × ℕ)
 markChecks r m = readyChecks r ++ ((isReply m, 20) ∷ [])
 
-abbrev pub formChecks : Replica → List ℕ → ℕ → List (Bool × ℕ)
-formChecks r m room = markChecks r m ++ ((leb commitLength room, 7) ∷ [])
+abbrev pub replyFormChecks : Replica → List ℕ → ℕ → List (Bool × ℕ)
+replyFormChecks r m room = markChecks r m ++ ((leb commitLength room, 7) ∷ [])
 
 abbrev pub lastChecks : Replica → List ℕ → List (Bool × ℕ)
 lastChecks r m = (lastOk r m, 24) ∷ []
 
 -- all of them, in their order
 unfoldable pub replyNo : Replica → List ℕ → ℕ → ℕ
-replyNo r m room = firstNo 0 (formChecks r m room ++ (itemsChecks r m (replyCount m) ++ lastChecks r m))
+replyNo r m room = firstNo 0 (replyFormChecks r m room ++ (itemsChecks r m (replyCount m) ++ lastChecks r m))

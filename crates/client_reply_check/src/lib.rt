@@ -4,7 +4,7 @@ ghost use Prim.Native.Nat.{_+_, _<_, _≤_};
 ghost use Rattle.operation.specs.Operation.{maxPending};
 ghost use Rattle.message.specs.Layout.{clientCount, maxSeq};
 ghost use Rattle.checks.specs.Checks.{firstNo};
-ghost use Rattle.client_reply_check.specs.ReplyChecks.{listedOk, itemValue, itemChainOk, proofChecks, itemChecks};
+ghost use Rattle.client_reply_check.specs.ReplyChecks.{listedOk, itemValue, itemChainOk, itemProofChecks, itemChecks};
 ghost use Rattle.key_table.specs.KeyTable.{StateOf};
 use hmac::Keyed;
 use message::Item;
@@ -53,7 +53,7 @@ fn item_chain_ok(c: u32, held: u32, chain: [u8; replica::CHAIN_LENGTH], k: usize
 // Tag and chain of item `k`, once its content is allowed; its author's tags start from `s`.
 fn item_proof(r: Replica, k: usize, i: Item, s: Keyed) -> u8
     requires { ⌜ (k < maxPending) × (r .confirmed ≤ maxSeq) × StateOf (r .keys) (i .author) s ⌝ }
-    ensures { λ q. ⌜ q ≡ firstNo 0 (proofChecks r k i) ⌝ }
+    ensures { λ q. ⌜ q ≡ firstNo 0 (itemProofChecks r k i) ⌝ }
 {
     let chain = r.chain;
     let q = checks::also(0, verify::item_tag_ok(s, i), 22);

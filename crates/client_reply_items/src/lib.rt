@@ -6,7 +6,7 @@ ghost use Rattle.operation.specs.Operation.{maxPending};
 ghost use Rattle.message.specs.Layout.{clientCount, maxSeq, itemLength, replyHead};
 ghost use Rattle.message.specs.Message.{replyCount};
 ghost use Rattle.checks.specs.Checks.{firstNo};
-ghost use Rattle.client_reply_check.specs.ReplyChecks.{itemsChecks, lastOk, markChecks, formChecks, replyNo};
+ghost use Rattle.client_reply_check.specs.ReplyChecks.{itemsChecks, lastOk, markChecks, replyFormChecks, replyNo};
 ghost use Rattle.key_table.specs.KeyTable.{StateOf};
 use hmac::Keyed;
 use replica::Replica;
@@ -24,7 +24,7 @@ fn mark_check(r: Replica, m: &[u8]) -> u8
 }
 
 fn form_check(r: Replica, m: &[u8], room: usize) -> u8
-    ensures { λ q. ⌜ q ≡ firstNo 0 (formChecks r (now (m .entry)) room) ⌝ }
+    ensures { λ q. ⌜ q ≡ firstNo 0 (replyFormChecks r (now (m .entry)) room) ⌝ }
 {
     checks::also(mark_check(r, m), message::COMMIT_LENGTH <= room, 7)
 }

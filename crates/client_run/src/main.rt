@@ -10,8 +10,6 @@ ghost use Prim.Native.Nat.{_+_, _≤_};
 ghost use mathlib.Core.Path.{_≡_};
 ghost use lib.ListN.{length};
 
-// Words of a line
-
 // The place of a replica: that of the last one for a number above 3.
 fn slot(line: &[u8], k: usize) -> usize
     ensures { λ r. ⌜ r + 1382 ≤ 5528 ⌝ }
@@ -21,17 +19,17 @@ fn slot(line: &[u8], k: usize) -> usize
 
 // Printing
 
-fn put_event(event: Event) {
+fn print_event(event: Event) {
     match event {
-        Event::Opened => call_lines::put(b"opened"),
-        Event::Invoked(count) => call_lines::put_one(b"made", count as u64),
-        Event::Responded { seq, response } => call_lines::put_two(
+        Event::Opened => call_lines::print(b"opened"),
+        Event::Invoked(count) => call_lines::print_one(b"made", count as u64),
+        Event::Responded { seq, response } => call_lines::print_two(
             b"answer",
             seq as u64,
             response as u64,
         ),
-        Event::Aborted { seq } => call_lines::put_one(b"aside", seq as u64),
-        Event::Confirmed { seq, status } => call_lines::put_two(
+        Event::Aborted { seq } => call_lines::print_one(b"aside", seq as u64),
+        Event::Confirmed { seq, status } => call_lines::print_two(
             b"confirm",
             seq as u64,
             status as u64,
@@ -39,20 +37,20 @@ fn put_event(event: Event) {
     }
 }
 
-fn put_outcome(outcome: Outcome) {
+fn print_outcome(outcome: Outcome) {
     match outcome {
-        Outcome::Success(event) => put_event(event),
-        Outcome::Refused(why) => call_lines::put_one(b"no", replica::refusal_number(why) as u64),
-        Outcome::Halted(why) => call_lines::put_one(b"halt", replica::halt_number(why) as u64),
+        Outcome::Success(event) => print_event(event),
+        Outcome::Refused(why) => call_lines::print_one(b"no", replica::refusal_number(why) as u64),
+        Outcome::Halted(why) => call_lines::print_one(b"halt", replica::halt_number(why) as u64),
     }
 }
 
 // A replica in 1,382 bytes: each field in its order, numbers in four bytes
 
-fn keys_of(state: &[u8]) -> [u8; 256]
+fn keys_of(state: &[u8]) -> [u8; message::KEYS_LENGTH]
     requires { ⌜ 1382 ≤ length (now state) ⌝ }
 {
-    let mut t = [0u8; 256];
+    let mut t = [0u8; message::KEYS_LENGTH];
     slices::copy_to(&mut t, 0, &state[1..257]);
     t
 }
@@ -68,7 +66,7 @@ fn chain_of(state: &[u8]) -> [u8; replica::CHAIN_LENGTH]
 fn cells_of(state: &[u8]) -> operation::Cells
     requires { ⌜ 1382 ≤ length (now state) ⌝ }
 {
-    let mut t = [0u8; 16];
+    let mut t = [0u8; operation::CELL_COUNT];
     slices::copy_to(&mut t, 0, &state[1365..1381]);
     t
 }
@@ -95,27 +93,6 @@ fn replica_of(state: &[u8]) -> Replica
     }
 }
 
-fn copy_keys(state: &mut [u8], keys: [u8; 256]) {
-    call_lines::copy_part(state, 1, &keys);
-}
-
-fn copy_current(state: &mut [u8], current: Operation) {
-    let bytes = operation::op_bytes(current);
-    call_lines::copy_part(state, 261, &bytes);
-}
-
-fn copy_chain(state: &mut [u8], chain: [u8; replica::CHAIN_LENGTH]) {
-    call_lines::copy_part(state, 277, &chain);
-}
-
-fn copy_statuses(state: &mut [u8], statuses: [u8; operation::MAX_PENDING]) {
-    call_lines::copy_part(state, 1333, &statuses);
-}
-
-fn copy_cells(state: &mut [u8], cells: operation::Cells) {
-    call_lines::copy_part(state, 1365, &cells);
-}
-
 fn store_numbers(state: &mut [u8], r: Replica) {
     call_lines::copy_byte(state, 0, r.number);
     call_lines::copy_word(state, 257, r.count);
@@ -124,18 +101,35 @@ fn store_numbers(state: &mut [u8], r: Replica) {
     call_lines::copy_byte(state, 1381, r.halt);
 }
 
+fn store_current(state: &mut [u8], current: Operation) {
+    let bytes = operation::op_bytes(current);
+    call_lines::copy_part(state, 261, &bytes);
+}
+
+fn store_keys(state: &mut [u8], keys: &[u8; message::KEYS_LENGTH]) {
+    call_lines::copy_part(state, 1, keys);
+}
+
+fn store_chain(state: &mut [u8], chain: &[u8; replica::CHAIN_LENGTH]) {
+    call_lines::copy_part(state, 277, chain);
+}
+
+fn store_statuses(state: &mut [u8], statuses: &[u8; operation::MAX_PENDING]) {
+    call_lines::copy_part(state, 1333, statuses);
+}
+
+fn store_cells(state: &mut [u8], cells: &operation::Cells) {
+    call_lines::copy_part(state, 1365, cells);
+}
+
 fn store(state: &mut [u8], r: Replica) {
-    let keys = r.keys;
     let current = r.current;
-    let chain = r.chain;
-    let statuses = r.statuses;
-    let cells = r.cells;
     store_numbers(state, r);
-    copy_keys(state, keys);
-    copy_current(state, current);
-    copy_chain(state, chain);
-    copy_statuses(state, statuses);
-    copy_cells(state, cells);
+    store_current(state, current);
+    store_keys(state, &r.keys);
+    store_chain(state, &r.chain);
+    store_statuses(state, &r.statuses);
+    store_cells(state, &r.cells);
 }
 
 // Calls
@@ -186,19 +180,16 @@ fn buffer() -> [u8; 128]
     [0xaa; 128]
 }
 
-fn empty() -> [u8; 1382]
-    ensures { λ r. ⌜ 1382 ≡ length r ⌝ }
+// Prints the outcome, keeps the replica, and prints its digest.
+fn keep(states: &mut [u8], to: usize, stepped: Stepped)
+    requires { ⌜ to + 1382 ≤ length (now states) ⌝ }
 {
-    [0; 1382]
-}
-
-fn after(states: &mut [u8], to: usize, stepped: Stepped) {
     let replica = stepped.replica;
     let outcome = stepped.outcome;
-    put_outcome(outcome);
-    let mut state = empty();
-    store(&mut state, replica);
-    call_lines::keep(states, to, &state);
+    print_outcome(outcome);
+    let e = to + 1382;
+    store(&mut states[to..e], replica);
+    call_lines::print_digest(&states[to..e]);
 }
 
 fn call(states: &mut [u8], line: &[u8], letter: u8)
@@ -206,63 +197,29 @@ fn call(states: &mut [u8], line: &[u8], letter: u8)
 {
     let from = slot(line, 1);
     let to = slot(line, 2);
-    let state = state_at(states, from);
-    let r = replica_of(&state);
+    let e = from + 1382;
+    let r = replica_of(&states[from..e]);
     let mut out = buffer();
     let stepped = step_in(r, line, letter, &mut out);
-    after(states, to, stepped);
-    call_lines::put_digest(&out);
-}
-
-fn set_bytes(state: &mut [u8], line: &[u8])
-    requires { ⌜ 1382 ≤ length (now state) ⌝ }
-{
-    let at = call_lines::number_at(line, 3, 1381) as usize;
-    call_lines::bytes_at(line, 4, &mut state[at..]);
-}
-
-fn change(states: &mut [u8], line: &[u8])
-    requires { ⌜ 5528 ≤ length (now states) ⌝ }
-{
-    let from = slot(line, 1);
-    let to = slot(line, 2);
-    let mut state = state_at(states, from);
-    set_bytes(&mut state, line);
-    call_lines::put(b"changed");
-    call_lines::keep(states, to, &state);
-}
-
-fn state_at(states: &[u8], at: usize) -> [u8; 1382]
-    requires { ⌜ at + 1382 ≤ length (now states) ⌝ }
-    ensures { λ r. ⌜ 1382 ≡ length r ⌝ }
-{
-    let mut t = [0u8; 1382];
-    let e = at + 1382;
-    slices::copy_to(&mut t, 0, &states[at..e]);
-    t
-}
-
-fn opened(states: &mut [u8], line: &[u8]) {
-    let to = slot(line, 1);
-    let stepped = open(line);
-    after(states, to, stepped);
+    keep(states, to, stepped);
+    call_lines::print_digest(&out);
 }
 
 // A line's first letter says what it asks.
 fn one(states: &mut [u8], line: &[u8])
     requires { ⌜ 5528 ≤ length (now states) ⌝ }
 {
-    let letter = call_lines::letter(line);
+    let letter = call_lines::first_letter(line);
     if letter == b'#' {
-        call_lines::put(line);
+        call_lines::print(line);
         return;
     }
     if letter == b'o' {
-        opened(states, line);
+        keep(states, slot(line, 1), open(line));
         return;
     }
     if letter == b'c' {
-        change(states, line);
+        call_lines::change(states, line, slot(line, 1), slot(line, 2), 1382);
         return;
     }
     call(states, line, letter);
@@ -288,7 +245,7 @@ fn zeros() -> [u8; 5528]
 
 fn main() {
     let mut states = zeros();
-    let mut text = call_lines::room();
+    let mut text = call_lines::text_buffer();
     let n = io::read_full(STDIN_FILENO, &mut text);
     lines(&mut states, &text[..n]);
 }

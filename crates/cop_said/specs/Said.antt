@@ -5,29 +5,29 @@ use Rattle.server.specs.Server.{ServerTold, placed, broadcast, refused as serve
 use Rattle.cop_said.specs.declared.Said.{Said}
 
 -- "a success …, each with its own data": which one it is, and what it brings
-abbrev pub success : ℕ → ℕ → ℕ → Said
-success what first second = record { what = what; number = 0; first = first; second = second }
+abbrev pub successSaid : ℕ → ℕ → ℕ → Said
+successSaid what first second = record { what = what; number = 0; first = first; second = second }
 
 -- "refusals: … only the number comes back"
-abbrev pub refusal : ℕ → Said
-refusal n = record { what = 0; number = n; first = 0; second = 0 }
+abbrev pub refusalSaid : ℕ → Said
+refusalSaid n = record { what = 0; number = n; first = 0; second = 0 }
 
 -- "20 to 25 are halts"
-abbrev pub halt : ℕ → Said
-halt n = record { what = 1; number = n; first = 0; second = 0 }
+abbrev pub haltSaid : ℕ → Said
+haltSaid n = record { what = 1; number = n; first = 0; second = 0 }
 
 -- the client's calls: "An answer and "aside" bring their place; a confirmation brings place and status. A made entry brings its own count"
 abbrev pub said : Told → Said
-said opened = success 2 0 0
-said (invoked n) = success 3 n 0
-said (responded p a) = success 4 p a
-said (aborted p) = success 5 p 0
-said (confirmed p s) = success 6 p s
-said (refused n) = refusal n
-said (halted n) = halt n
+said opened = successSaid 2 0 0
+said (invoked n) = successSaid 3 n 0
+said (responded p a) = successSaid 4 p a
+said (aborted p) = successSaid 5 p 0
+said (confirmed p s) = successSaid 6 p s
+said (refused n) = refusalSaid n
+said (halted n) = haltSaid n
 
 -- the server's: "the relay's `IN` its place, the relay's `CO` how many `BR`s it wrote"
 abbrev pub serverSaid : ServerTold → Said
-serverSaid (placed p) = success 7 p 0
-serverSaid (broadcast n) = success 8 n 0
-serverSaid (serverRefused n) = refusal n
+serverSaid (placed p) = successSaid 7 p 0
+serverSaid (broadcast n) = successSaid 8 n 0
+serverSaid (serverRefused n) = refusalSaid n

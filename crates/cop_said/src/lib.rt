@@ -1,8 +1,8 @@
 // What a call says to a program in C or Rust: an outcome as four numbers. Definitions: specs/Said.antt.
 ghost use mathlib.Core.Path.{_≡_};
 ghost use Rattle.replica.specs.Outcome.{eventTold, told};
-ghost use Rattle.server.specs.Server.{eventTold as serverDoneTold, told as serverTold};
-ghost use Rattle.cop_said.specs.Said.{said, serverSaid, success, refusal, halt};
+ghost use Rattle.server.specs.Server.{eventTold as serverEventTold, told as serverTold};
+ghost use Rattle.cop_said.specs.Said.{said, serverSaid, successSaid, refusalSaid, haltSaid};
 use replica::Event;
 use replica::Outcome;
 use server::ServerEvent;
@@ -19,7 +19,7 @@ pub struct Said {
 }
 
 fn success_said(what: u32, first: u32, second: u32) -> Said
-    ensures { λ q. ⌜ q ≡ success what first second ⌝ }
+    ensures { λ q. ⌜ q ≡ successSaid what first second ⌝ }
 {
     Said {
         what,
@@ -30,7 +30,7 @@ fn success_said(what: u32, first: u32, second: u32) -> Said
 }
 
 fn refusal_said(number: u8) -> Said
-    ensures { λ q. ⌜ q ≡ refusal number ⌝ }
+    ensures { λ q. ⌜ q ≡ refusalSaid number ⌝ }
 {
     Said {
         what: 0,
@@ -41,7 +41,7 @@ fn refusal_said(number: u8) -> Said
 }
 
 fn halt_said(number: u8) -> Said
-    ensures { λ q. ⌜ q ≡ halt number ⌝ }
+    ensures { λ q. ⌜ q ≡ haltSaid number ⌝ }
 {
     Said {
         what: 1,
@@ -51,7 +51,7 @@ fn halt_said(number: u8) -> Said
     }
 }
 
-fn done_said(d: Event) -> Said
+fn event_said(d: Event) -> Said
     ensures { λ q. ⌜ q ≡ said (eventTold d) ⌝ }
 {
     match d {
@@ -68,14 +68,14 @@ pub fn client_said(o: Outcome) -> Said
     ensures { λ q. ⌜ q ≡ said (told o) ⌝ }
 {
     match o {
-        Outcome::Success(d) => done_said(d),
+        Outcome::Success(d) => event_said(d),
         Outcome::Refused(why) => refusal_said(replica::refusal_number(why)),
         Outcome::Halted(why) => halt_said(replica::halt_number(why)),
     }
 }
 
-fn server_done_said(d: ServerEvent) -> Said
-    ensures { λ q. ⌜ q ≡ serverSaid (serverDoneTold d) ⌝ }
+fn server_event_said(d: ServerEvent) -> Said
+    ensures { λ q. ⌜ q ≡ serverSaid (serverEventTold d) ⌝ }
 {
     match d {
         ServerEvent::Placed(seq) => success_said(7, seq, 0),
@@ -88,7 +88,7 @@ pub fn server_said(o: ServerOutcome) -> Said
     ensures { λ q. ⌜ q ≡ serverSaid (serverTold o) ⌝ }
 {
     match o {
-        ServerOutcome::Success(d) => server_done_said(d),
+        ServerOutcome::Success(d) => server_event_said(d),
         ServerOutcome::Refused(why) => refusal_said(server::refusal_number(why)),
     }
 }

@@ -5,7 +5,7 @@ use Prim.Native.Nat.{ℕ, _-_}
 use lib.Bits.{bitXor}
 use lib.ListN.{length, replicate}
 use lib.Dec.{leb}
-use Rattle.sha256.specs.Sha256.{sha256, allowed}
+use Rattle.sha256.specs.Sha256.{sha256, withinLimit}
 use Rattle.hmac.specs.declared.Tagged.{Tagged}
 use Rattle.hmac.specs.declared.Tagged.the-variants.{Done, TooLong}
 
@@ -27,7 +27,7 @@ hmac key m = sha256 (xored 0x5c (blockKey key) ++ sha256 (xored 0x36 (blockKey k
 
 -- document 01, the questions: "Digest and tag: input, and the tag's key, each at most 65,535 bytes?"
 abbrev pub bothAllowed : List ℕ → List ℕ → Bool
-bothAllowed key m = allowed m && allowed key
+bothAllowed key m = withinLimit m && withinLimit key
 
 -- the paper's number of an outcome: 0 for a success, 9 for the refusal
 abbrev pub taggedNo : Tagged → ℕ

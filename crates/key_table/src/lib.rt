@@ -73,7 +73,7 @@ pub fn state_of(t: [Entry; 9], keys: [u8; message::KEYS_LENGTH], client: u8) -> 
     }
 }
 
-fn put(t: [Entry; 9], at: usize, e: Entry) -> [Entry; 9]
+fn with_entry(t: [Entry; 9], at: usize, e: Entry) -> [Entry; 9]
     requires { ⌜ at < 9 ⌝ }
     ensures { λ r. ⌜ r ≡ set t at e ⌝ }
 {
@@ -88,7 +88,7 @@ pub fn with_state(t: [Entry; 9], client: u8, state: Keyed) -> [Entry; 9]
 {
     if (1 <= client) & (client <= message::CLIENTS) {
         let e = Entry { known: true, state };
-        put(t, client as usize, e)
+        with_entry(t, client as usize, e)
     } else {
         t
     }

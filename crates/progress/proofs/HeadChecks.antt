@@ -14,7 +14,7 @@ use Rattle.message.specs.Message.{isInvoke, itemAt, commitOf}
 use Rattle.replica.specs.declared.Replica.{Replica}
 use Rattle.checks.proofs.Laws.{every-each}
 use Rattle.server.specs.declared.Server.{Server}
-use Rattle.server.specs.Server.{itemOk, wholeInvoke, wholeCommit, authorOf, lineChecks, lastCount, invokeChecks, slotItem, slotOf, placeOk, commitChecks, serverNo}
+use Rattle.server.specs.Server.{itemOk, wholeInvoke, wholeCommit, authorOf, lineChecks, lastCount, placingChecks, slotItem, slotOf, placeOk, commitChecks, serverNo}
 use Rattle.server.specs.Server as Sv
 use Rattle.progress.specs.HonestRuns.{Line}
 use Rattle.progress.proofs.Invariant.{Ghost, Downs, Asked, Sent, Asks, invokes, Client}
@@ -76,7 +76,7 @@ module _ (g : Ghost) (s : Server) (range : Sv.inRange s ≡ true) (n b : ℕ) (l
     unfolding serverNo
     invoke-no room P z p q o =
         rw e
-        (first-among P 0 (lineChecks s n m ++ invokeChecks s (itemAt m 2) room) z (
+        (first-among P 0 (lineChecks s n m ++ placingChecks s (itemAt m 2) room) z (
           inl range,
           (
             inl (or-left (wholeInvoke m) (wholeCommit m) invoke-fine),

@@ -12,7 +12,7 @@ use Rattle.replica.specs.declared.Replica.{Replica}
 use Rattle.replica.specs.Outcome.{refused}
 use Rattle.client_invoke.specs.Invoke.{invokeChecks, invokeNo, invokeStep}
 use Rattle.client_reply_check.specs.ReplyChecks.{replyNo}
-use Rattle.client_reply.specs.Reply.{replyDone, replyStep}
+use Rattle.client_reply.specs.Reply.{replySuccess, replyStep}
 use Rattle.client.specs.Receive.{receiveStep}
 use Rattle.server.specs.declared.Server.{Server}
 use Rattle.server.specs.Server as Sv
@@ -47,7 +47,7 @@ module _ (g : Ghost) (sv : Server) (n b : ℕ) (r : Replica) (u : Line) where
     by-lines (inl (U, inl (R, D))) h = absurd (reply-none g sv n (r .confirmed) m R)
     by-lines (inl (U, inr (P, D))) h = absurd (subst Success (rw (P .other) at h) (broadcast-success g sv n b r u d m C P))
     by-lines (inr (U, inl (R, D))) h =
-        step-refusal r (replyDone r m) (replyNo r m room) k (λ x. x ≡ 7) (done-success r m)
+        step-refusal r (replySuccess r m) (replyNo r m room) k (λ x. x ≡ 7) (done-success r m)
         (only-room g sv n b r u d m C R (λ x. (x ≡ 0) ⊎ (x ≡ 7)) room (inl refl) (inr (inr refl)))
         (rw (R .form) at h)
     by-lines (inr (U, inr (P, D))) h = absurd (subst Success (rw (P .other) at h) (broadcast-success g sv n b r u d m C P))

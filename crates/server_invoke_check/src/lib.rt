@@ -5,7 +5,7 @@ ghost use lib.ListN.{getD};
 ghost use lib.Dec.{eqb};
 ghost use Rattle.message.specs.Layout.{clientCount, maxSeq};
 ghost use Rattle.checks.specs.Checks.{firstNo};
-ghost use Rattle.server.specs.Server.{invokeChecks};
+ghost use Rattle.server.specs.Server.{placingChecks};
 use message::Item;
 use server::Server;
 
@@ -28,7 +28,7 @@ fn is_next(count: u32, last: u32) -> bool
 // The checks, in their order.
 pub fn invoke_check(s: Server, i: Item, room: usize) -> u8
     requires { ⌜ (s .passed ≤ s .placed) × (s .placed ≤ maxSeq) × (1 ≤ i .author) × (i .author ≤ clientCount) ⌝ }
-    ensures { λ q. ⌜ q ≡ firstNo 0 (invokeChecks s i room) ⌝ }
+    ensures { λ q. ⌜ q ≡ firstNo 0 (placingChecks s i room) ⌝ }
 {
     let counts = s.counts;
     let e = i.op;

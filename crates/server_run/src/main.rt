@@ -18,17 +18,17 @@ fn slot(line: &[u8], k: usize) -> usize
 
 // Printing
 
-fn put_event(event: ServerEvent) {
+fn print_event(event: ServerEvent) {
     match event {
-        ServerEvent::Placed(seq) => call_lines::put_one(b"placed", seq as u64),
-        ServerEvent::Broadcast(n) => call_lines::put_one(b"passed", n as u64),
+        ServerEvent::Placed(seq) => call_lines::print_one(b"placed", seq as u64),
+        ServerEvent::Broadcast(n) => call_lines::print_one(b"passed", n as u64),
     }
 }
 
-fn put_outcome(outcome: ServerOutcome) {
+fn print_outcome(outcome: ServerOutcome) {
     match outcome {
-        ServerOutcome::Success(event) => put_event(event),
-        ServerOutcome::Refused(why) => call_lines::put_one(
+        ServerOutcome::Success(event) => print_event(event),
+        ServerOutcome::Refused(why) => call_lines::print_one(
             b"no",
             server::refusal_number(why) as u64,
         ),
@@ -37,7 +37,7 @@ fn put_outcome(outcome: ServerOutcome) {
 
 // A state in 3,432 bytes: each field in its order, numbers in four bytes
 
-fn counts_of(state: &[u8]) -> [u32; 8]
+fn counts_of(state: &[u8]) -> [u32; message::CLIENTS as usize]
     requires { ⌜ 3432 ≤ length (now state) ⌝ }
 {
     [
@@ -61,10 +61,10 @@ fn items_of(state: &[u8]) -> [u8; server::ITEMS_LENGTH]
 }
 
 // The digests or the tags.
-fn parts_of(state: &[u8], at: usize) -> [u8; 1024]
+fn parts_of(state: &[u8], at: usize) -> [u8; server::DIGESTS_LENGTH]
     requires { ⌜ at + 1024 ≤ length (now state) ⌝ }
 {
-    let mut t = [0u8; 1024];
+    let mut t = [0u8; server::DIGESTS_LENGTH];
     let e = at + 1024;
     slices::copy_to(&mut t, 0, &state[at..e]);
     t
@@ -89,7 +89,7 @@ fn server_of(state: &[u8]) -> Server
     }
 }
 
-fn copy_counts(state: &mut [u8], counts: [u32; 8]) {
+fn store_counts(state: &mut [u8], counts: [u32; message::CLIENTS as usize]) {
     let mut i: usize = 0;
     while i < 8 {
         call_lines::copy_word(state, 8 + i * 4, counts[i]);
@@ -97,53 +97,37 @@ fn copy_counts(state: &mut [u8], counts: [u32; 8]) {
     }
 }
 
-fn copy_items(state: &mut [u8], items: [u8; server::ITEMS_LENGTH]) {
-    call_lines::copy_part(state, 40, &items);
+fn store_items(state: &mut [u8], items: &[u8; server::ITEMS_LENGTH]) {
+    call_lines::copy_part(state, 40, items);
 }
 
-fn copy_statuses(state: &mut [u8], statuses: [u8; 32]) {
-    call_lines::copy_part(state, 1352, &statuses);
+fn store_statuses(state: &mut [u8], statuses: &[u8; operation::MAX_PENDING]) {
+    call_lines::copy_part(state, 1352, statuses);
 }
 
-fn copy_parts(state: &mut [u8], at: usize, parts: [u8; 1024]) {
-    call_lines::copy_part(state, at, &parts);
+// The digests or the tags.
+fn store_parts(state: &mut [u8], at: usize, parts: &[u8; server::DIGESTS_LENGTH]) {
+    call_lines::copy_part(state, at, parts);
 }
 
 fn store(state: &mut [u8], s: Server) {
     let counts = s.counts;
-    let items = s.items;
-    let statuses = s.statuses;
-    let digests = s.digests;
-    let tags = s.tags;
     call_lines::copy_word(state, 0, s.placed);
     call_lines::copy_word(state, 4, s.passed);
-    copy_counts(state, counts);
-    copy_items(state, items);
-    copy_statuses(state, statuses);
-    copy_parts(state, 1384, digests);
-    copy_parts(state, 2408, tags);
+    store_counts(state, counts);
+    store_items(state, &s.items);
+    store_statuses(state, &s.statuses);
+    store_parts(state, 1384, &s.digests);
+    store_parts(state, 2408, &s.tags);
 }
 
-fn empty() -> [u8; 3432]
-    ensures { λ r. ⌜ 3432 ≡ length r ⌝ }
+// Keeps the state, and prints its digest.
+fn keep(states: &mut [u8], to: usize, s: Server)
+    requires { ⌜ to + 3432 ≤ length (now states) ⌝ }
 {
-    [0; 3432]
-}
-
-fn state_at(states: &[u8], at: usize) -> [u8; 3432]
-    requires { ⌜ at + 3432 ≤ length (now states) ⌝ }
-    ensures { λ r. ⌜ 3432 ≡ length r ⌝ }
-{
-    let mut t = [0u8; 3432];
-    let e = at + 3432;
-    slices::copy_to(&mut t, 0, &states[at..e]);
-    t
-}
-
-fn after(states: &mut [u8], to: usize, s: Server) {
-    let mut state = empty();
-    store(&mut state, s);
-    call_lines::keep(states, to, &state);
+    let e = to + 3432;
+    store(&mut states[to..e], s);
+    call_lines::print_digest(&states[to..e]);
 }
 
 // Calls
@@ -174,56 +158,39 @@ fn call(states: &mut [u8], line: &[u8])
 {
     let from = slot(line, 1);
     let to = slot(line, 2);
-    let state = state_at(states, from);
-    let s = server_of(&state);
+    let e = from + 3432;
+    let s = server_of(&states[from..e]);
     let mut out = buffer();
     let served = receive_in(s, line, &mut out);
     let server = served.server;
     let outcome = served.outcome;
-    put_outcome(outcome);
-    after(states, to, server);
-    call_lines::put_digest(&out);
+    print_outcome(outcome);
+    keep(states, to, server);
+    call_lines::print_digest(&out);
 }
 
-fn fresh(states: &mut [u8], line: &[u8]) {
-    let to = slot(line, 1);
-    call_lines::put(b"fresh");
-    after(states, to, server::fresh());
-}
-
-fn set_bytes(state: &mut [u8], line: &[u8])
-    requires { ⌜ 3432 ≤ length (now state) ⌝ }
-{
-    let at = call_lines::number_at(line, 3, 3431) as usize;
-    call_lines::bytes_at(line, 4, &mut state[at..]);
-}
-
-fn change(states: &mut [u8], line: &[u8])
+fn start(states: &mut [u8], line: &[u8])
     requires { ⌜ 6864 ≤ length (now states) ⌝ }
 {
-    let from = slot(line, 1);
-    let to = slot(line, 2);
-    let mut state = state_at(states, from);
-    set_bytes(&mut state, line);
-    call_lines::put(b"changed");
-    call_lines::keep(states, to, &state);
+    call_lines::print(b"fresh");
+    keep(states, slot(line, 1), server::fresh());
 }
 
 // A line's first letter says what it asks.
 fn one(states: &mut [u8], line: &[u8])
     requires { ⌜ 6864 ≤ length (now states) ⌝ }
 {
-    let letter = call_lines::letter(line);
+    let letter = call_lines::first_letter(line);
     if letter == b'#' {
-        call_lines::put(line);
+        call_lines::print(line);
         return;
     }
     if letter == b'f' {
-        fresh(states, line);
+        start(states, line);
         return;
     }
     if letter == b'c' {
-        change(states, line);
+        call_lines::change(states, line, slot(line, 1), slot(line, 2), 3432);
         return;
     }
     call(states, line);
@@ -249,7 +216,7 @@ fn zeros() -> [u8; 6864]
 
 fn main() {
     let mut states = zeros();
-    let mut text = call_lines::room();
+    let mut text = call_lines::text_buffer();
     let n = io::read_full(STDIN_FILENO, &mut text);
     lines(&mut states, &text[..n]);
 }

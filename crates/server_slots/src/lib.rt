@@ -20,7 +20,7 @@ fn zero_part(s: &[u8], at: usize) -> bool
 }
 
 // Whether the operation and author of the item at `at` are allowed.
-fn item_ok(items: &[u8], at: usize) -> bool
+fn item_ok_at(items: &[u8], at: usize) -> bool
     requires { ⌜ at + itemLength ≤ length (now items) ⌝ }
     ensures { λ r. ⌜ r ≡ itemOk (itemAt (now (items .entry)) at) ⌝ }
 {
@@ -40,7 +40,7 @@ fn slot_ok<'a>(
     requires { ⌜ k < maxPending ⌝ }
     ensures { λ r. ⌜ ((s : Server) → r ≡ slotOk (withSlots s (now (items .entry)) (now (statuses .entry)) (now (digests .entry)) (now (tags .entry))) k) ⌝ }
 {
-    let i = item_ok(items, k * message::ITEM_LENGTH);
+    let i = item_ok_at(items, k * message::ITEM_LENGTH);
     let d = zero_part(digests, k * message::DIGEST_LENGTH);
     let t = zero_part(tags, k * message::TAG_LENGTH);
     i & ((statuses[k] != 0) | (d & t))

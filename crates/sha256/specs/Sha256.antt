@@ -43,8 +43,8 @@ unfoldable pub sha256 : List ℕ → List ℕ
 sha256 m = bytesOf (hashFrom initial (blockCount m) (pad m))
 
 -- document 01, the questions: "input ... at most 65,535 bytes?"
-abbrev pub allowed : List ℕ → Bool
-allowed m = leb (length m) 65535
+abbrev pub withinLimit : List ℕ → Bool
+withinLimit m = leb (length m) 65535
 
 -- the paper's number of an outcome: 0 for a success, 9 for the refusal
 abbrev pub digestedNo : Digested → ℕ
@@ -53,8 +53,8 @@ digestedNo TooLong = 9
 
 -- the number of the call on m
 abbrev pub digestNo : List ℕ → ℕ
-digestNo m = cond (allowed m) 0 9
+digestNo m = cond (withinLimit m) 0 9
 
 -- the bytes lent for the digest, after the call on m: the digest, or as they were
 unfoldable pub digestOut : List ℕ → List ℕ → List ℕ
-digestOut m out = cond (allowed m) (sha256 m) out
+digestOut m out = cond (withinLimit m) (sha256 m) out

@@ -23,7 +23,7 @@ fn eight<'a>(k: &'a [u32; 64], w: &'a [u32; 64], t: usize, s: State) -> State
 }
 
 // The 64 rounds on a schedule.
-fn run(w: &[u32; 64], s: State) -> State
+fn all_rounds(w: &[u32; 64], s: State) -> State
     ensures { λ r. ⌜ r ≡ rounds 64 (now (w .entry)) s ⌝ }
 {
     let k = sha256_core::table();
@@ -42,5 +42,5 @@ pub fn compress(s: State, m: &[u8], at: usize) -> State
     ensures { λ r. ⌜ r ≡ compressOf s (wordsAt 16 (now (m .entry)) at) ⌝ }
 {
     let w = sha256_block::expand(m, at);
-    sha256_core::sum(s, run(&w, s))
+    sha256_core::sum(s, all_rounds(&w, s))
 }

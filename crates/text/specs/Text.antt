@@ -23,9 +23,9 @@ cut x (c ∷ cs) = cond (eqb c x) ([] ∷ cut x cs) (onFirst c (cut x cs))
 abbrev pub isDigit : ℕ → Bool
 isDigit c = leb 48 c && leb c 57
 
-abbrev pub some : List ℕ → Bool
-some [] = false
-some (x ∷ xs) = true
+abbrev pub nonEmpty : List ℕ → Bool
+nonEmpty [] = false
+nonEmpty (x ∷ xs) = true
 
 -- the number whose digits are v's and then these
 unfoldable pub horner : ℕ → List ℕ → ℕ
@@ -34,7 +34,7 @@ horner v (c ∷ cs) = horner (v * 10 + (c - 48)) cs
 
 -- the number that the bytes spell, one or more decimal digits: cap for one above cap, and for what is no number
 unfoldable pub numberOf : ℕ → List ℕ → ℕ
-numberOf cap s = cond (some s && all isDigit s) (min (horner 0 s) cap) cap
+numberOf cap s = cond (nonEmpty s && all isDigit s) (min (horner 0 s) cap) cap
 
 -- the decimal digits of a number, at most the given number of them
 unfoldable pub digits : ℕ → ℕ → List ℕ

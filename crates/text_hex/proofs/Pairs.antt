@@ -10,7 +10,7 @@ use lib.Dec.{leb}
 use lib.Seq.{drop-cons, drop-drop, getD-drop, paste, paste-zero, paste-suc, length-paste, take-length}
 use borrow.Author.Tests.{le-leb, lt-leb}
 use Rattle.slices.specs.Bytes.{put}
-use Rattle.text_hex.specs.Hex.{hexDigit, hexValue, hexOf, bytesOf}
+use Rattle.text_hex.specs.Hex.{hexDigit, hexValue, hexOf, unhexOf}
 
 -- ---- digits
 pub digit-low : (d : ℕ) → d ≤ 9 → 48 + d ≡ hexDigit d
@@ -108,20 +108,20 @@ module _ (s : List ℕ) (i : ℕ) where
       2 * i + 1 < length s →
       hexValue (getD s (2 * i) 0) ≤ 15 →
       hexValue (getD s (2 * i + 1) 0) ≤ 15 →
-      bytesOf (drop (2 * i) s) ≡ (hexValue (getD s (2 * i) 0) * 16 + hexValue (getD s (2 * i + 1) 0)) ∷ bytesOf (drop (2 * (i + 1)) s)
-  unfolding bytesOf
+      unhexOf (drop (2 * i) s) ≡ (hexValue (getD s (2 * i) 0) * 16 + hexValue (getD s (2 * i + 1) 0)) ∷ unhexOf (drop (2 * (i + 1)) s)
+  unfolding unhexOf
   bytes-go h a b = rw (pair-at h, le-leb _ 15 a, le-leb _ 15 b)
 
-  pub bytes-high : 2 * i + 1 < length s → 15 < hexValue (getD s (2 * i) 0) → bytesOf (drop (2 * i) s) ≡ []
-  unfolding bytesOf
+  pub bytes-high : 2 * i + 1 < length s → 15 < hexValue (getD s (2 * i) 0) → unhexOf (drop (2 * i) s) ≡ []
+  unfolding unhexOf
   bytes-high h a = rw (pair-at h, lt-leb _ 15 a)
 
-  pub bytes-low : 2 * i + 1 < length s → 15 < hexValue (getD s (2 * i + 1) 0) → bytesOf (drop (2 * i) s) ≡ []
-  unfolding bytesOf
+  pub bytes-low : 2 * i + 1 < length s → 15 < hexValue (getD s (2 * i + 1) 0) → unhexOf (drop (2 * i) s) ≡ []
+  unfolding unhexOf
   bytes-low h b = rw (pair-at h, lt-leb _ 15 b, and-false)
 
-short : (t : List ℕ) → length t < 2 → bytesOf t ≡ []
-unfolding bytesOf
+short : (t : List ℕ) → length t < 2 → unhexOf t ≡ []
+unfolding unhexOf
 short [] h = refl
 short (c ∷ []) h = refl
 short (c ∷ d ∷ t) h = absurd (omega (arith, h))
@@ -129,30 +129,30 @@ short (c ∷ d ∷ t) h = absurd (omega (arith, h))
 -- the first i bytes are read
 pub record Took (z s : List ℕ) (i : ℕ) (out : List ℕ) : Type 0 where
   pub room : i ≤ length z
-  pub within : i ≤ length (bytesOf s)
-  pub rest : drop i (bytesOf s) ≡ bytesOf (drop (2 * i) s)
-  pub same : out ≡ paste z 0 (bytesOf s) i
+  pub within : i ≤ length (unhexOf s)
+  pub rest : drop i (unhexOf s) ≡ unhexOf (drop (2 * i) s)
+  pub same : out ≡ paste z 0 (unhexOf s) i
 
 pub took-none : (z s : List ℕ) → Took z s 0 z
-took-none z s = record { room = omega arith; within = omega arith; rest = refl; same = paste-zero z 0 (bytesOf s) }
+took-none z s = record { room = omega arith; within = omega arith; rest = refl; same = paste-zero z 0 (unhexOf s) }
 
 -- what is answered, and what then stands in the buffer
 abbrev pub Answer : List ℕ → List ℕ → List ℕ → ℕ → Type 0
-Answer z s out n = (n ≡ min (length (bytesOf s)) (length z)) × (out ≡ paste z 0 (bytesOf s) n)
+Answer z s out n = (n ≡ min (length (unhexOf s)) (length z)) × (out ≡ paste z 0 (unhexOf s) n)
 
 module _ {z s : List ℕ} {i : ℕ} {out : List ℕ} (w : Took z s i out) where
   pub took-length : length out ≡ length z
   took-length =
       let h = w .within in
       let r = w .room in
-      ap length (w .same) ∙ length-paste z 0 (bytesOf s) i (omega arith) (omega arith)
+      ap length (w .same) ∙ length-paste z 0 (unhexOf s) i (omega arith) (omega arith)
 
-  took-stop : bytesOf (drop (2 * i) s) ≡ [] → Answer z s out i
+  took-stop : unhexOf (drop (2 * i) s) ≡ [] → Answer z s out i
   took-stop e =
       let h = w .within in
       let r = w .room in
-      let n : length (drop i (bytesOf s)) ≡ 0 = ap length (w .rest ∙ e) in
-      (omega (arith, length-drop i (bytesOf s)), w .same)
+      let n : length (drop i (unhexOf s)) ≡ 0 = ap length (w .rest ∙ e) in
+      (omega (arith, length-drop i (unhexOf s)), w .same)
 
   pub took-end : length s / 2 ≤ i → Answer z s out i
   took-end h = took-stop (short (drop (2 * i) s) (omega (arith, length-drop (2 * i) s)))
@@ -174,16 +174,16 @@ module _ {z s : List ℕ} {i : ℕ} {out : List ℕ} (w : Took z s i out) where
       Took z s (i + 1) (set out i (hexValue (getD s (2 * i) 0) * 16 + hexValue (getD s (2 * i + 1) 0)))
   took-more r h a b =
       let v = hexValue (getD s (2 * i) 0) * 16 + hexValue (getD s (2 * i + 1) 0) in
-      let e : drop i (bytesOf s) ≡ v ∷ bytesOf (drop (2 * (i + 1)) s) = w .rest ∙ bytes-go s i (omega arith) a b in
-      let l : i < length (bytesOf s) = omega (arith, ap length e, length-drop i (bytesOf s)) in
+      let e : drop i (unhexOf s) ≡ v ∷ unhexOf (drop (2 * (i + 1)) s) = w .rest ∙ bytes-go s i (omega arith) a b in
+      let l : i < length (unhexOf s) = omega (arith, ap length e, length-drop i (unhexOf s)) in
       let z₀ : i + 0 ≡ i = omega arith in
-      let g : getD (bytesOf s) i 0 ≡ v = sym (getD-drop i (bytesOf s) 0 0 ∙ ap (λ (k : ℕ). getD (bytesOf s) k 0) z₀) ∙ ap (λ (t : List ℕ). getD t 0 0) e in
+      let g : getD (unhexOf s) i 0 ≡ v = sym (getD-drop i (unhexOf s) 0 0 ∙ ap (λ (k : ℕ). getD (unhexOf s) k 0) z₀) ∙ ap (λ (t : List ℕ). getD t 0 0) e in
       let z₁ : 0 + i ≡ i = omega arith in
-      let p : set (paste z 0 (bytesOf s) i) i (getD (bytesOf s) i 0) ≡ paste z 0 (bytesOf s) (suc i) =
-      ap (λ (k : ℕ). set (paste z 0 (bytesOf s) i) k (getD (bytesOf s) i 0)) (sym z₁) ∙ paste-suc z 0 (bytesOf s) i 0 (omega arith) l in
+      let p : set (paste z 0 (unhexOf s) i) i (getD (unhexOf s) i 0) ≡ paste z 0 (unhexOf s) (suc i) =
+      ap (λ (k : ℕ). set (paste z 0 (unhexOf s) i) k (getD (unhexOf s) i 0)) (sym z₁) ∙ paste-suc z 0 (unhexOf s) i 0 (omega arith) l in
       record {
         room = omega arith;
         within = omega arith;
-        rest = sym (drop-drop 1 i (bytesOf s)) ∙ ap (drop 1) e;
+        rest = sym (drop-drop 1 i (unhexOf s)) ∙ ap (drop 1) e;
         same = rw (w .same, ← g, add-one) p;
       }

@@ -18,7 +18,7 @@ hexOf [] = []
 hexOf (x ∷ xs) = hexDigit (x / 16) ∷ hexDigit (x % 16) ∷ hexOf xs
 
 -- the bytes that pairs of hexadecimal digits spell, up to the first pair that is none
-unfoldable pub bytesOf : List ℕ → List ℕ
-bytesOf [] = []
-bytesOf (c ∷ []) = []
-bytesOf (c ∷ d ∷ s) = cond (leb (hexValue c) 15 && leb (hexValue d) 15) ((hexValue c * 16 + hexValue d) ∷ bytesOf s) []
+unfoldable pub unhexOf : List ℕ → List ℕ
+unhexOf [] = []
+unhexOf (c ∷ []) = []
+unhexOf (c ∷ d ∷ s) = cond (leb (hexValue c) 15 && leb (hexValue d) 15) ((hexValue c * 16 + hexValue d) ∷ unhexOf s) []

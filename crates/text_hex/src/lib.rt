@@ -4,7 +4,7 @@ ghost use Prim.Native.Nat.{_+_, _*_, _<_, _≤_, min};
 ghost use lib.ListN.{length};
 ghost use lib.Seq.{paste};
 ghost use Rattle.slices.specs.Bytes.{put};
-ghost use Rattle.text_hex.specs.Hex.{hexDigit, hexValue, hexOf, bytesOf};
+ghost use Rattle.text_hex.specs.Hex.{hexDigit, hexValue, hexOf, unhexOf};
 
 fn hex_digit(d: u8) -> u8
     requires { ⌜ d < 16 ⌝ }
@@ -49,8 +49,8 @@ pub fn hex(out: &mut [u8], at: usize, s: &[u8]) -> usize
 
 // Puts the bytes that pairs of hexadecimal digits spell at the front of `out`, as many as it has room for, and answers how many.
 pub fn unhex(s: &[u8], out: &mut [u8]) -> usize
-    ensures { λ r. ⌜ (r ≡ min (length (bytesOf (now (s .entry)))) (length (now (out .entry))))
-        × (now (out .exit) ≡ paste (now (out .entry)) 0 (bytesOf (now (s .entry))) r) ⌝ }
+    ensures { λ r. ⌜ (r ≡ min (length (unhexOf (now (s .entry)))) (length (now (out .entry))))
+        × (now (out .exit) ≡ paste (now (out .entry)) 0 (unhexOf (now (s .entry))) r) ⌝ }
 {
     let mut i = 0;
     while i < out.len() {

@@ -4,6 +4,7 @@ ghost use mathlib.Core.List.{List};
 ghost use mathlib.Core.Bool.{true};
 ghost use Prim.Native.Nat.{ℕ};
 ghost use lib.ListN.{length};
+ghost use Rattle.trial_core.specs.Sizes.{invokesLength, repliesLength};
 ghost use Rattle.trial_words.specs.Words.{invoke};
 ghost use Rattle.trial_core.specs.Trial.{isClient, commandStep};
 ghost use Rattle.trial_core.specs.Moves.{lentOf};
@@ -22,7 +23,7 @@ pub fn invoke(
     replies: &mut [u8],
     invokes: &mut [u8],
 ) -> Result
-    requires { ⌜ (isClient van ≡ true) × (length (now replies) ≡ 10520) × (length (now invokes) ≡ 344) ⌝ }
+    requires { ⌜ (isClient van ≡ true) × (length (now replies) ≡ repliesLength) × (length (now invokes) ≡ invokesLength) ⌝ }
     ensures { λ q. ⌜ ((log : List ℕ) → lineOf q (lentOf log (now (replies .exit)) (now (invokes .exit)))
         ≡ commandStep t (lentOf log (now (replies .entry)) (now (invokes .entry))) (invoke van kind cell amount)) ⌝ }
 {

@@ -20,9 +20,9 @@ pub fn answer(
     command: Command,
     out: &mut [u8],
     at: usize,
-    log: &mut [u8; 40960],
-    replies: &mut [u8; 10520],
-    invokes: &mut [u8; 344],
+    log: &mut [u8; trial_core::LOG_LENGTH],
+    replies: &mut [u8; trial_core::REPLIES_LENGTH],
+    invokes: &mut [u8; trial_core::INVOKES_LENGTH],
 ) -> Line
     requires { ⌜ at + 64 ≤ length (now out) ⌝ }
     ensures { λ r. ⌜ Said trial number (lentOf (now (log .entry)) (now (replies .entry)) (now (invokes .entry))) (asked command) (now (out .entry)) at

@@ -4,6 +4,8 @@ ghost use mathlib.Core.List.{List};
 ghost use mathlib.Core.Bool.{true};
 ghost use Prim.Native.Nat.{ℕ, _<_};
 ghost use lib.ListN.{length};
+ghost use Rattle.message.specs.Layout.{clientCount};
+ghost use Rattle.trial_core.specs.Sizes.{logLength};
 ghost use Rattle.trial_core.specs.Trial.{broadcastFirst, broadcastMove};
 ghost use Rattle.trial_core.specs.Moves.{moveOf, lentOf};
 use replica::Replica;
@@ -13,14 +15,14 @@ use trial_core::Moved;
 
 // Client `i` + 1 takes the broadcast at the head of its line.
 pub fn deliver_broadcast(r: Replica, s: Server, l: Lines, i: usize, log: &[u8]) -> Moved
-    requires { ⌜ (i < 8) × (broadcastFirst l i (s .passed) ≡ true) × (length (now log) ≡ 40960) ⌝ }
+    requires { ⌜ (i < clientCount) × (broadcastFirst l i (s .passed) ≡ true) × (length (now log) ≡ logLength) ⌝ }
     ensures { λ q. ⌜ ((replies : List ℕ) (invokes : List ℕ) → moveOf q (lentOf (now (log .entry)) replies invokes)
         ≡ broadcastMove r s l i (lentOf (now (log .entry)) replies invokes)) ⌝ }
 {
     let next = l.next;
-    let at = next[i] as usize % 512 * 80;
-    let end = at + 80;
-    let mut out = [0u8; 80];
+    let at = next[i] as usize % trial_core::LOG_SIZE * message::COMMIT_LENGTH;
+    let end = at + message::COMMIT_LENGTH;
+    let mut out = [0u8; message::COMMIT_LENGTH];
     let q = client::receive(r, &log[at..end], &mut out);
     let outcome = q.outcome;
     let replica = q.replica;

@@ -1,7 +1,7 @@
 -- What the code of a move hands back, as the definitions have it.
 use Prim.Native.Nat.{ℕ}
 use mathlib.Core.List.{List}
-use Rattle.trial_said.specs.Word.{word}
+use Rattle.trial_said.specs.Word.{wordOf}
 use Rattle.trial_core.specs.Trial.{Lent, Move}
 use Rattle.trial_core.specs.declared.Moved.{Moved}
 
@@ -15,7 +15,7 @@ moveOf q b =
       replica = q .replica;
       server = q .server;
       lines = q .lines;
-      word = word (q .said);
+      word = wordOf (q .said);
       log = b .log;
       replies = b .replies;
       invokes = b .invokes;

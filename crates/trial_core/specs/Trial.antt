@@ -6,6 +6,8 @@ use mathlib.Core.Bool.{Bool, true, false, cond, not, _&&_, _||_}
 use lib.ListN.{length, getD, set, take, drop, replicate}
 use lib.Dec.{leb, ltb, eqb}
 use Rattle.slices.specs.Bytes.{put}
+use Rattle.operation.specs.Operation.{maxPending}
+use Rattle.message.specs.Layout.{clientCount, maxSeq, keyLength, invokeLength, commitLength}
 use Rattle.trial_words.specs.Words.{Asked, invoke, deliver, other}
 use Rattle.trial_said.specs.Word.{Word, placed, answer, aside, confirm, empty, nay, halt, bad, full}
 use Rattle.replica.specs.declared.Replica.{Replica}
@@ -20,6 +22,7 @@ use Rattle.server.specs.Server as S
 use Rattle.server.specs.Server.{ServerTold, freshServer, serverStep}
 use Rattle.trial_core.specs.declared.Lines.{Lines}
 use Rattle.trial_core.specs.declared.Trial.{Trial}
+use Rattle.trial_core.specs.Sizes.{invokeRoom, commitRoom, logSize, logLength, repliesLength, invokesLength, fullAt}
 
 -- ---- outcomes as words
 -- `answer` place answer; `aside` place; `confirm` place status; `no` or `halt` number. (An opening or an invoke prints nothing by itself.)
@@ -80,30 +83,30 @@ withoutBroadcast l i =
 
 -- whether the head of the line is the reply, of at most 1315 bytes; else whether it is a broadcast
 abbrev pub replyFirst : Lines → ℕ → Bool
-replyFirst l i = not (eqb (getD (l .lengths) i 0) 0) && leb (getD (l .lengths) i 0) 1315 && eqb (getD (l .before) i 0) (getD (l .next) i 0)
+replyFirst l i = not (eqb (getD (l .lengths) i 0) 0) && leb (getD (l .lengths) i 0) invokeRoom && eqb (getD (l .before) i 0) (getD (l .next) i 0)
 
 abbrev pub broadcastFirst : Lines → ℕ → ℕ → Bool
 broadcastFirst l i passed = ltb (getD (l .next) i 0) passed
 
 -- the bytes of client i + 1's reply and of its invoke, and of the broadcast that `p` others precede
-abbrev pub replyBytes : Lines → List ℕ → ℕ → List ℕ
-replyBytes l replies i = take (getD (l .lengths) i 0) (drop (i * 1315) replies)
+abbrev pub queuedReply : Lines → List ℕ → ℕ → List ℕ
+queuedReply l replies i = take (getD (l .lengths) i 0) (drop (i * invokeRoom) replies)
 
-abbrev pub invokeBytes : List ℕ → ℕ → List ℕ
-invokeBytes invokes i = take 43 (drop (i * 43) invokes)
+abbrev pub keptInvoke : List ℕ → ℕ → List ℕ
+keptInvoke invokes i = take invokeLength (drop (i * invokeLength) invokes)
 
-abbrev pub broadcastBytes : List ℕ → ℕ → List ℕ
-broadcastBytes log p = take 80 (drop (p % 512 * 80) log)
+abbrev pub loggedBroadcast : List ℕ → ℕ → List ℕ
+loggedBroadcast log p = take commitLength (drop (p % logSize * commitLength) log)
 
 -- the log with the first n of these broadcasts, after `passed` others
 unfoldable pub logged : List ℕ → ℕ → ℕ → List ℕ → List ℕ
 logged log passed zero bytes = log
-logged log passed (suc k) bytes = put (logged log passed k bytes) ((passed + k) % 512 * 80) (take 80 (drop (k * 80) bytes))
+logged log passed (suc k) bytes = put (logged log passed k bytes) ((passed + k) % logSize * commitLength) (take commitLength (drop (k * commitLength) bytes))
 
 -- "while 256 or more `BR`s are undelivered to some van": clients 1 to n
 unfoldable pub isFull : List ℕ → ℕ → ℕ → Bool
 isFull next passed zero = false
-isFull next passed (suc k) = isFull next passed k || leb (getD next k 0 + 256) passed
+isFull next passed (suc k) = isFull next passed k || leb (getD next k 0 + fullAt) passed
 
 -- ---- the server takes an invoke
 pub record Offering : Type 0 where
@@ -119,20 +122,20 @@ offeredLines l i q = cond (isPlaced (q .says)) (withReply l i (q .server .passed
 unfoldable pub offer : Server → Lines → ℕ → List ℕ → List ℕ → Offering
 offer s l i m replies =
     record {
-      server = serverStep s (i + 1) m 1315 .server;
-      lines = offeredLines l i (serverStep s (i + 1) m 1315);
-      word = servedWord (serverStep s (i + 1) m 1315 .says);
-      replies = put replies (i * 1315) (serverStep s (i + 1) m 1315 .wrote);
+      server = serverStep s (i + 1) m invokeRoom .server;
+      lines = offeredLines l i (serverStep s (i + 1) m invokeRoom);
+      word = servedWord (serverStep s (i + 1) m invokeRoom .says);
+      replies = put replies (i * invokeRoom) (serverStep s (i + 1) m invokeRoom .wrote);
     }
 
 -- whether the server has a place to give (a law of trial_laws: where it has none, it refuses every invoke)
 unfoldable pub hasPlace : Server → Bool
-hasPlace s = leb (s .passed) (s .placed) && ltb (s .placed - s .passed) 32 && ltb (s .placed) 1000000
+hasPlace s = leb (s .passed) (s .placed) && ltb (s .placed - s .passed) maxPending && ltb (s .placed) maxSeq
 
 -- "offered again, without printing, before each later line, lowest van first": clients 1 to n
 unfoldable pub offerOne : Offering → ℕ → List ℕ → Offering
 offerOne o i invokes =
-    cond (getD (o .lines .refused) i false && hasPlace (o .server)) (offer (o .server) (o .lines) i (invokeBytes invokes i) (o .replies)) o
+    cond (getD (o .lines .refused) i false && hasPlace (o .server)) (offer (o .server) (o .lines) i (keptInvoke invokes i) (o .replies)) o
 
 unfoldable pub offerTo : ℕ → Server → Lines → List ℕ → List ℕ → Offering
 offerTo zero s l replies invokes = record { server = s; lines = l; word = empty; replies = replies }
@@ -157,8 +160,8 @@ pub record Lent : Type 0 where
 -- "`IN` and `CO` reach the relay without delay": an invoke that a client wrote …
 unfoldable pub invokedMove : Step → Server → Lines → ℕ → Lent → Move
 invokedMove q s l i b =
-    let invokes = put (b .invokes) (i * 43) (q .wrote) in
-    let o = offer s l i (invokeBytes invokes i) (b .replies) in
+    let invokes = put (b .invokes) (i * invokeLength) (q .wrote) in
+    let o = offer s l i (keptInvoke invokes i) (b .replies) in
     record {
       replica = q .after .replica;
       server = o .server;
@@ -184,14 +187,14 @@ stoppedMove q s l b =
 
 unfoldable pub invokeMove : Replica → Server → Lines → ℕ → ℕ → ℕ → ℕ → Lent → Move
 invokeMove r s l i kind cell amount b =
-    cond (isSuccess (invokeStep r kind cell amount 43 .after .says))
-    (invokedMove (invokeStep r kind cell amount 43) s l i b)
-    (stoppedMove (invokeStep r kind cell amount 43) s l b)
+    cond (isSuccess (invokeStep r kind cell amount invokeLength .after .says))
+    (invokedMove (invokeStep r kind cell amount invokeLength) s l i b)
+    (stoppedMove (invokeStep r kind cell amount invokeLength) s l b)
 
 -- … and a commit, whose broadcasts go to the lines of all
 unfoldable pub repliedMove : Step → Server → Lines → ℕ → Lent → Move
 repliedMove q s l i b =
-    let c = serverStep s (i + 1) (over (q .wrote) (replicate 80 0)) 2560 in
+    let c = serverStep s (i + 1) (over (q .wrote) (replicate commitLength 0)) commitRoom in
     record {
       replica = q .after .replica;
       server = c .server;
@@ -217,12 +220,12 @@ confirmedMove q s l i b =
 -- "A refused message remains at the head of its line."
 unfoldable pub replyMove : Replica → Server → Lines → ℕ → Lent → Move
 replyMove r s l i b =
-    let q = receiveStep r (replyBytes l (b .replies) i) 80 in
+    let q = receiveStep r (queuedReply l (b .replies) i) commitLength in
     cond (isSuccess (q .after .says)) (repliedMove q s l i b) (stoppedMove q s l b)
 
 unfoldable pub broadcastMove : Replica → Server → Lines → ℕ → Lent → Move
 broadcastMove r s l i b =
-    let q = receiveStep r (broadcastBytes (b .log) (getD (l .next) i 0)) 80 in
+    let q = receiveStep r (loggedBroadcast (b .log) (getD (l .next) i 0)) commitLength in
     cond (isSuccess (q .after .says)) (confirmedMove q s l i b) (stoppedMove q s l b)
 
 unfoldable pub emptyMove : Replica → Server → Lines → Lent → Move
@@ -262,7 +265,7 @@ replicaOf t i = getD (t .replicas) i zeroReplica
 
 -- the refused invokes offered again
 unfoldable pub againOf : Trial → Lent → Offering
-againOf t b = offerTo 8 (t .server) (t .lines) (b .replies) (b .invokes)
+againOf t b = offerTo clientCount (t .server) (t .lines) (b .replies) (b .invokes)
 
 unfoldable pub againTrial : Trial → Offering → Trial
 againTrial t o = record { replicas = t .replicas; server = o .server; lines = o .lines }
@@ -271,7 +274,7 @@ unfoldable pub againLent : Lent → Offering → Lent
 againLent b o = record { log = b .log; replies = o .replies; invokes = b .invokes }
 
 abbrev pub isClient : ℕ → Bool
-isClient n = leb 1 n && leb n 8
+isClient n = leb 1 n && leb n clientCount
 
 -- "A line of another form, or with a van not 1 to 8 … gives `bad`, with van 0 and no data. Next, while 256 or more `BR`s are undelivered
 -- to some van, an `I` does nothing and gives `full` and no data."
@@ -283,7 +286,7 @@ commandStep t b (deliver n) =
     (unmoved t b 0 bad)
 commandStep t b (invoke n kind cell amount) =
     cond (isClient n)
-    (cond (isFull (t .lines .next) (t .server .passed) 8)
+    (cond (isFull (t .lines .next) (t .server .passed) clientCount)
     (unmoved t b n full)
     (moved t (n - 1) (invokeMove (replicaOf t (n - 1)) (t .server) (t .lines) (n - 1) kind cell amount b)))
     (unmoved t b 0 bad)
@@ -295,10 +298,10 @@ lineStep t b a = let o = againOf t b in commandStep (againTrial t o) (againLent 
 -- "Van j's key is 32 bytes of value j."
 unfoldable pub keysTo : ℕ → List ℕ
 keysTo zero = []
-keysTo (suc n) = keysTo n ++ replicate 32 (suc n)
+keysTo (suc n) = keysTo n ++ replicate keyLength (suc n)
 
 abbrev pub trialKeys : List ℕ
-trialKeys = keysTo 8
+trialKeys = keysTo clientCount
 
 unfoldable pub replicasTo : ℕ → List Replica
 replicasTo zero = []
@@ -307,11 +310,11 @@ replicasTo (suc n) = replicasTo n ++ (openStep (suc n) trialKeys .replica ∷ []
 unfoldable pub startTrial : Trial
 startTrial =
     record {
-      replicas = replicasTo 8;
+      replicas = replicasTo clientCount;
       server = freshServer;
-      lines = record { next = replicate 8 0; before = replicate 8 0; lengths = replicate 8 0; refused = replicate 8 false };
+      lines = record { next = replicate clientCount 0; before = replicate clientCount 0; lengths = replicate clientCount 0; refused = replicate clientCount false };
     }
 
 -- the bytes lent at the start are zero
 unfoldable pub startLent : Lent
-startLent = record { log = replicate 40960 0; replies = replicate 10520 0; invokes = replicate 344 0 }
+startLent = record { log = replicate logLength 0; replies = replicate repliesLength 0; invokes = replicate invokesLength 0 }

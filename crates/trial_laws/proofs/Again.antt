@@ -16,7 +16,7 @@ use Rattle.server.specs.Server as Sv
 use Rattle.server.specs.Server.{serverStep, stopStep}
 use Rattle.progress.specs.HonestRuns as H
 use Rattle.progress.specs.HonestRuns.{World, Line, act, runFrom, serveHead, served}
-use Rattle.trial_core.specs.Trial.{Lent, Offering, offer, offerOne, offerTo, hasPlace, invokeBytes}
+use Rattle.trial_core.specs.Trial.{Lent, Offering, offer, offerOne, offerTo, hasPlace, keptInvoke}
 use Rattle.trial_core.specs.declared.Lines.{Lines}
 use Rattle.trial_laws.specs.TrialRuns.{offers}
 use Rattle.trial_ways.proofs.Parts.{bool-cases}
@@ -53,7 +53,7 @@ module _ (rs : List Replica) (b : Lent) (w : World) (R : Reached w) (i : ℕ) (h
 
   module _ (o : Offering) (G : Good rs b w o) where
     abbrev m : List ℕ
-    m = invokeBytes (b .invokes) i
+    m = keptInvoke (b .invokes) i
 
     waiting : getD (o .lines .refused) i false ≡ true → Good rs b v (offer (o .server) (o .lines) i m (o .replies))
     waiting e =

@@ -20,7 +20,7 @@ use Rattle.checks.proofs.Laws.{cond-cases, all-yes}
 use Rattle.client_invoke.specs.Invoke.{newOp, invokeChecks, invokeNo, invokeMessage, invokeStep}
 use Rattle.client_broadcast.specs.Broadcast.{broadcastNo, broadcastStep}
 use Rattle.client_reply_check.specs.ReplyChecks.{replyNo}
-use Rattle.client_reply.specs.Reply.{replyDone, replyStep, repliedReplica, commitMessage, chainAfter, isAborted, saysOf}
+use Rattle.client_reply.specs.Reply.{replySuccess, replyStep, repliedReplica, commitMessage, chainAfter, isAborted, saysOf}
 use Rattle.client.specs.Receive.{receiveStep}
 use Rattle.progress.specs.HonestRuns as H
 use Rattle.progress.specs.HonestRuns.{World, Line, written, rest}
@@ -118,12 +118,12 @@ no-invoke : (r : Replica) (chain : List ℕ) (n : ℕ) (a : Bool) → isInvoke (
 unfolding commitMessage
 no-invoke r chain n a = commit-no-invoke _
 
-replying : (r : Replica) (m : List ℕ) → Success (replyDone r m .after .says) → Replying (replyDone r m)
-unfolding replyDone repliedReplica
+replying : (r : Replica) (m : List ℕ) → Success (replySuccess r m .after .says) → Replying (replySuccess r m)
+unfolding replySuccess repliedReplica
 replying r m s =
     record {
-      yes-told = success-yes (replyDone r m .after .says) s;
-      rest-told = λ l. success-rest (replyDone r m .after .says) l s;
+      yes-told = success-yes (replySuccess r m .after .says) s;
+      rest-told = λ l. success-rest (replySuccess r m .after .says) l s;
       sent-told = λ n room. sent-reply (isAborted r m) _ _ n room;
       other = no-invoke r (chainAfter r m) (replyCount m) (isAborted r m);
       one = written-commit r (chainAfter r m) (replyCount m) (isAborted r m);
@@ -135,7 +135,7 @@ unfolding receiveStep replyStep
 reply-step r m room e =
     let x = replyNo r m room in
     cond-cases (λ (q : Step). Success (q .after .says) → Replying q) (isReply m) _ _
-    (λ t. cond-cases (λ (q : Step). Success (q .after .says) → Replying q) (eqb x 0) (replyDone r m) (stopStep r x)
+    (λ t. cond-cases (λ (q : Step). Success (q .after .says) → Replying q) (eqb x 0) (replySuccess r m) (stopStep r x)
     (λ t s. replying r m s)
     (λ f s. absurd (stop-fails r x s)))
     (λ f. absurd (true≢false (sym e ∙ f)))

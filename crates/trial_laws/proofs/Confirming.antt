@@ -11,7 +11,7 @@ use Rattle.client.specs.Receive.{receiveStep}
 use Rattle.progress.specs.HonestRuns as H
 use Rattle.progress.specs.HonestRuns.{World, act, deliverIn, deliverHead, putOne, written, rest}
 use Rattle.progress.proofs.Acting.{update-same, update-other}
-use Rattle.trial_core.specs.Trial.{Lent, withoutBroadcast, broadcastBytes, replyBytes, confirmedMove}
+use Rattle.trial_core.specs.Trial.{Lent, withoutBroadcast, loggedBroadcast, queuedReply, confirmedMove}
 use Rattle.trial_core.specs.declared.Lines.{Lines}
 use Rattle.trial_ways.proofs.Ways.{Way, way-confirmed}
 use Rattle.trial_laws.proofs.ClientCalls.{Confirming, confirm-step}
@@ -29,12 +29,12 @@ module _ (rs : List Replica) (l : Lines) (b : Lent) (w : World) (S : Shows rs l 
   next = getD (l .next) i 0
 
   abbrev m : List ℕ
-  m = broadcastBytes (b .log) next
+  m = loggedBroadcast (b .log) next
 
   taken : (w .down n ≡ m ∷ drop 1 (w .down n))
-      × Way (b .log) (w .server .passed) (next + 1) (getD (l .before) i 0) (getD (l .lengths) i 0) (replyBytes l (b .replies) i) (drop 1 (w .down n))
+      × Way (b .log) (w .server .passed) (next + 1) (getD (l .before) i 0) (getD (l .lengths) i 0) (queuedReply l (b .replies) i) (drop 1 (w .down n))
   taken =
-      way-confirmed (b .log) (w .server .passed) next (getD (l .before) i 0) (getD (l .lengths) i 0) (replyBytes l (b .replies) i) (w .down n) behind later
+      way-confirmed (b .log) (w .server .passed) next (getD (l .before) i 0) (getD (l .lengths) i 0) (queuedReply l (b .replies) i) (w .down n) behind later
       (S .client i h .way)
 
   pub broadcast-head : w .down n ≡ m ∷ drop 1 (w .down n)

@@ -17,7 +17,7 @@ use Rattle.client.specs.Receive.{receiveStep}
 use Rattle.progress.specs.HonestRuns as H
 use Rattle.progress.specs.HonestRuns.{World, Line, Action, act, runFrom, deliverHead, toldHead, toldIn}
 use Rattle.trial_said.specs.Word.{empty}
-use Rattle.trial_core.specs.Trial.{Lent, Move, replyFirst, broadcastFirst, replyBytes, broadcastBytes, toldWord, repliedMove, confirmedMove, replyMove, broadcastMove, emptyMove, deliverMove}
+use Rattle.trial_core.specs.Trial.{Lent, Move, replyFirst, broadcastFirst, queuedReply, loggedBroadcast, toldWord, repliedMove, confirmedMove, replyMove, broadcastMove, emptyMove, deliverMove}
 use Rattle.trial_core.specs.declared.Lines.{Lines}
 use Rattle.trial_laws.specs.TrialRuns.{sent, sentBy, deliverActions, deliverWord}
 use Rattle.trial_ways.proofs.Ways.{way-empty}
@@ -79,7 +79,7 @@ module _ (rs : List Replica) (l : Lines) (b : Lent) (w : World) (S : Shows rs l 
   unfolding replyMove repliedMove runFrom
   reply-case e =
       let f = first-yes (getD (l .lengths) i 0) (getD (l .before) i 0) (getD (l .next) i 0) e in
-      let m = replyBytes l (b .replies) i in
+      let m = queuedReply l (b .replies) i in
       let q = receiveStep (w .replica n) m 80 in
       let P = replying rs l b w S R i h (f .0) (f .1) in
       let d = reply-head rs l b w S R i h (f .0) (f .1) in
@@ -94,7 +94,7 @@ module _ (rs : List Replica) (l : Lines) (b : Lent) (w : World) (S : Shows rs l 
   broadcast-case e g =
       let f = first-no (getD (l .lengths) i 0) (getD (l .before) i 0) (getD (l .next) i 0) e in
       let k = ltb-true (getD (l .next) i 0) (w .server .passed) g in
-      let m = broadcastBytes (b .log) (getD (l .next) i 0) in
+      let m = loggedBroadcast (b .log) (getD (l .next) i 0) in
       let q = receiveStep (w .replica n) m 80 in
       let P = confirming rs l b w S R i h k f in
       let d = broadcast-head rs l b w S R i h k f in
@@ -110,7 +110,7 @@ module _ (rs : List Replica) (l : Lines) (b : Lent) (w : World) (S : Shows rs l 
       let f = first-no (getD (l .lengths) i 0) (getD (l .before) i 0) (getD (l .next) i 0) e in
       let k = ltb-false (getD (l .next) i 0) (w .server .passed) g in
       let d =
-      way-empty (b .log) (w .server .passed) (getD (l .next) i 0) (getD (l .before) i 0) (getD (l .lengths) i 0) (replyBytes l (b .replies) i) (w .down n) k f
+      way-empty (b .log) (w .server .passed) (getD (l .next) i 0) (getD (l .before) i 0) (getD (l .lengths) i 0) (queuedReply l (b .replies) i) (w .down n) k f
       (S .client i h .way) in
       let z : set rs i (w .replica n) ≡ rs = ap (set rs i) (sym (S .replica i h)) ∙ set-getD rs i zeroReplica in (
         subst (λ (v : World). Moved rs i v (emptyMove (w .replica n) (w .server) l b)) (sym (run-none w n d))

@@ -13,9 +13,9 @@ use borrow.Author.Tests.{leb-true, leb-false, le-leb, lt-leb}
 use Rattle.replica.specs.declared.Replica.{Replica}
 use Rattle.progress.specs.HonestRuns.{World, Line}
 use Rattle.trial_core.specs.Trial as T
-use Rattle.trial_core.specs.Trial.{Lent, replyBytes}
+use Rattle.trial_core.specs.Trial.{Lent, queuedReply}
 use Rattle.trial_core.specs.declared.Lines.{Lines}
-use Rattle.trial_laws.specs.TrialRuns.{broadcastsIn, isFull}
+use Rattle.trial_laws.specs.TrialRuns.{broadcastsIn, someFull}
 use Rattle.trial_ways.proofs.Parts.{bool-cases}
 use Rattle.trial_ways.proofs.Ring.{logFrom}
 use Rattle.trial_ways.proofs.Ways.{Way, none, some, Quiet}
@@ -63,11 +63,11 @@ or-no false b e = (refl, e)
 module _ (rs : List Replica) (l : Lines) (b : Lent) (w : World) (S : Shows rs l b w) where
   pub undelivered : (i : ℕ) → i < 8 → getD (l .next) i 0 + broadcastsIn (w .down (i + 1)) ≡ w .server .passed
   undelivered i h =
-      way-count (b .log) (w .server .passed) (getD (l .next) i 0) (getD (l .before) i 0) (getD (l .lengths) i 0) (replyBytes l (b .replies) i) (w .down (i + 1))
+      way-count (b .log) (w .server .passed) (getD (l .next) i 0) (getD (l .before) i 0) (getD (l .lengths) i 0) (queuedReply l (b .replies) i) (w .down (i + 1))
       (S .client i h .quiet) (S .client i h .way)
 
-  pub full-same : (k : ℕ) → k ≤ 8 → T.isFull (l .next) (w .server .passed) k ≡ isFull w k
-  unfolding T.isFull isFull
+  pub full-same : (k : ℕ) → k ≤ 8 → T.isFull (l .next) (w .server .passed) k ≡ someFull w k
+  unfolding T.isFull someFull
   full-same zero h = refl
   full-same (suc k) h =
       let e : leb (getD (l .next) k 0 + 256) (w .server .passed) ≡ leb 256 (broadcastsIn (w .down (suc k)))
@@ -85,5 +85,5 @@ module _ (rs : List Replica) (l : Lines) (b : Lent) (w : World) (S : Shows rs l 
       (λ (q : j < k). not-full k (y .0) j q)
       (eq-or-lt-of-le (le-of-suc-le-suc h))
 
-  pub behind : isFull w 8 ≡ false → (j : ℕ) → j < 8 → w .server .passed ≤ getD (l .next) j 0 + 255
+  pub behind : someFull w 8 ≡ false → (j : ℕ) → j < 8 → w .server .passed ≤ getD (l .next) j 0 + 255
   behind e = not-full 8 (full-same 8 (omega arith) ∙ e)

@@ -17,9 +17,9 @@ use Rattle.server.specs.Server as Sv
 use Rattle.server.specs.Server.{serverStep}
 use Rattle.progress.specs.HonestRuns as H
 use Rattle.progress.specs.HonestRuns.{World, Action, act, runFrom, invokeIn}
-use Rattle.trial_core.specs.Trial.{Lent, Move, Offering, withReply, withRefused, offeredLines, offer, isSuccess, servedWord, invokeBytes, invokedMove, stoppedMove, invokeMove}
+use Rattle.trial_core.specs.Trial.{Lent, Move, Offering, withReply, withRefused, offeredLines, offer, isSuccess, servedWord, keptInvoke, invokedMove, stoppedMove, invokeMove}
 use Rattle.trial_core.specs.declared.Lines.{Lines}
-use Rattle.trial_laws.specs.TrialRuns.{isFull, sent, headWord, invokedWord}
+use Rattle.trial_laws.specs.TrialRuns.{someFull, sent, headWord, invokedWord}
 use Rattle.trial_laws.proofs.ClientCalls.{Invoking, Stopping, invoke-step}
 use Rattle.trial_ways.proofs.Reached.{Reached, reached-act}
 use Rattle.trial_ways.proofs.Shows.{Shows}
@@ -64,7 +64,7 @@ unfolding withRefused
 refused-own l i h z = getD-set-same (l .refused) i true false (omega arith)
 
 module _ (rs : List Replica) (l : Lines) (b : Lent) (w : World) (S : Shows rs l b w) (R : Reached w) (i : ℕ) (h : i < 8)
-    (F : isFull w 8 ≡ false) (kind cell amount : ℕ) where
+    (F : someFull w 8 ≡ false) (kind cell amount : ℕ) where
   abbrev n : ℕ
   n = i + 1
 
@@ -105,7 +105,7 @@ module _ (rs : List Replica) (l : Lines) (b : Lent) (w : World) (S : Shows rs l 
     b2 = asked b (put (b .invokes) (i * 43) (q .wrote))
 
     abbrev m : List ℕ
-    m = invokeBytes (b2 .invokes) i
+    m = keptInvoke (b2 .invokes) i
 
     invoked-run : runFrom w (a ∷ sent n 1315 (q .after .says)) ≡ act v (H.serve n 1315)
     unfolding runFrom sent

@@ -14,9 +14,9 @@ use Rattle.replica.specs.Replica.{Step, zeroReplica}
 use Rattle.progress.specs.HonestRuns.{World, update, putOne, written}
 use Rattle.progress.proofs.Acting.{update-same, update-other}
 use Rattle.progress.proofs.OneWay.{replies, invokes, invoke-counted, invoke-43}
-use Rattle.trial_core.specs.Trial.{Lent, withRefused, invokeBytes}
+use Rattle.trial_core.specs.Trial.{Lent, withRefused, keptInvoke}
 use Rattle.trial_core.specs.declared.Lines.{Lines}
-use Rattle.trial_laws.specs.TrialRuns.{isFull}
+use Rattle.trial_laws.specs.TrialRuns.{someFull}
 use Rattle.trial_ways.proofs.Parts.{bool-cases, part-put, part-other}
 use Rattle.trial_laws.proofs.ClientCalls.{Invoking, Stopping}
 use Rattle.trial_ways.proofs.Reached.{Reached, none-current, server-ranged}
@@ -72,7 +72,7 @@ module _ (rs : List Replica) (l : Lines) (b : Lent) (w : World) (S : Shows rs l 
     stopped-shows = record { sizes = stopped-sizes; replica = replicas; client = stopped-client; bound = S .bound }
 
   -- ---- an invoke is written
-  module _ (P : Invoking (w .replica n) q) (F : isFull w 8 ≡ false) where
+  module _ (P : Invoking (w .replica n) q) (F : someFull w 8 ≡ false) where
     abbrev l2 : Lines
     l2 = withRefused l i
 
@@ -86,7 +86,7 @@ module _ (rs : List Replica) (l : Lines) (b : Lent) (w : World) (S : Shows rs l 
     not-waiting =
         ⊎-elim
         (λ (t : getD (l .refused) i false ≡ true).
-        let m = invokeBytes (b .invokes) i in
+        let m = keptInvoke (b .invokes) i in
         let C = S .client i h in
         let e : invokes (w .up n) ≡ suc (invokes []) = ap invokes (C .waits ∙ ap (λ (x : Bool). cond x (m ∷ []) []) t) ∙ invoke-counted m [] (C .asks t) in
         let z = none-current w R i h (P .idle) in
@@ -95,13 +95,13 @@ module _ (rs : List Replica) (l : Lines) (b : Lent) (w : World) (S : Shows rs l 
         (bool-cases (getD (l .refused) i false))
 
     up-none : w .up n ≡ []
-    up-none = S .client i h .waits ∙ ap (λ (x : Bool). cond x (invokeBytes (b .invokes) i ∷ []) []) not-waiting
+    up-none = S .client i h .waits ∙ ap (λ (x : Bool). cond x (keptInvoke (b .invokes) i ∷ []) []) not-waiting
 
     pub up-own : v .up n ≡ q .wrote ∷ []
     unfolding calledWorld putOne
     up-own = update-same (w .up) n n (w .up n ++ written (q .wrote)) refl ∙ rw (up-none, P .one)
 
-    pub invoke-own : invokeBytes (b2 .invokes) i ≡ q .wrote
+    pub invoke-own : keptInvoke (b2 .invokes) i ≡ q .wrote
     invoke-own = part-put (b .invokes) (q .wrote) (i * 43) 43 long (omega (arith, S .sizes .invokes))
 
     own : ClientAt l2 b2 v i

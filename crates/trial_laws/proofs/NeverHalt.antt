@@ -16,7 +16,7 @@ use Rattle.progress.proofs.NoHalt.{no-halt}
 use Rattle.trial_words.specs.Words.{Asked, invoke, deliver, other}
 use Rattle.trial_said.specs.Word.{Word, placed, answer, aside, confirm, empty, nay, halt, bad, full}
 use Rattle.trial_core.specs.Trial.{trialKeys, isSuccess, isClient, toldWord, servedWord}
-use Rattle.trial_laws.specs.TrialRuns.{isFull, headWord, invokedWord, invokeWord, deliverWord, lineWord, lineVan, offers, offered, afterLine, trialWords, TrialHonest, NeverHalt}
+use Rattle.trial_laws.specs.TrialRuns.{someFull, headWord, invokedWord, invokeWord, deliverWord, lineWord, lineVan, offers, offered, afterLine, trialWords, TrialHonest, NeverHalt}
 use Rattle.trial_ways.proofs.Reached.{Reached, reached-start, reached-run}
 use Rattle.trial_laws.proofs.Trials.{reached-line, trial-honest}
 
@@ -93,7 +93,7 @@ module _ (w : World) (R : Reached w) where
   invoke-fine n kind cell amount =
       let t = invokeStep (w .replica n) kind cell amount 43 .after .says in
       let a = H.invoke n kind cell amount 43 in
-      cond-cases Fine (isFull w 8) full (invokedWord (act w a) n t) (λ e. tt) (λ e. invoked-fine (act w a) n t (calm w R a t refl))
+      cond-cases Fine (someFull w 8) full (invokedWord (act w a) n t) (λ e. tt) (λ e. invoked-fine (act w a) n t (calm w R a t refl))
 
   line-fine : (a : Asked) → Fine (lineWord w a)
   unfolding lineWord toldIn

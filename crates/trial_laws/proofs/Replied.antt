@@ -13,7 +13,7 @@ use Rattle.server.specs.Server as Sv
 use Rattle.progress.specs.HonestRuns.{World, Line, update, putOne, putAll, pieces, written, rest}
 use Rattle.progress.proofs.Acting.{update-same, update-other}
 use Rattle.progress.proofs.OneWay.{replies}
-use Rattle.trial_core.specs.Trial.{Lent, withoutReply, replyBytes, invokeBytes, logged}
+use Rattle.trial_core.specs.Trial.{Lent, withoutReply, queuedReply, keptInvoke, logged}
 use Rattle.trial_core.specs.declared.Lines.{Lines}
 use Rattle.trial_ways.proofs.Ring.{logFrom, logged-length}
 use Rattle.trial_ways.proofs.Ways.{Way, Quiet, end-quiet}
@@ -100,7 +100,7 @@ module _ (rs : List Replica) (l : Lines) (b : Lent) (w : World) (S : Shows rs l 
       let C = S .client i h in
       rw (Q .passed, getD-set-same (l .lengths) i 0 0 (omega (arith, S .sizes .lengths)), same-up n, down-own)
       (passed-client (b .log) (y .wrote) (w .server .passed) k (S .sizes .log) (Q .few) (Q .wrote) (getD (l .next) i 0) (getD (l .before) i 0) 0 []
-      (getD (l .refused) i false) (invokeBytes (b .invokes) i) (w .up n) (drop 1 (w .down n)) (near i h) quiet
+      (getD (l .refused) i false) (keptInvoke (b .invokes) i) (w .up n) (drop 1 (w .down n)) (near i h) quiet
       (record { way = way; quiet = C .quiet; waits = C .waits; asks = C .asks }))
 
   other : (j : ℕ) → j < 8 → (j ≡ i → ⊥) → ClientAt (withoutReply l i) (relogged b log) v j
@@ -108,7 +108,7 @@ module _ (rs : List Replica) (l : Lines) (b : Lent) (w : World) (S : Shows rs l 
   other j g e =
       rw (Q .passed, getD-set-other (l .lengths) i j 0 0 e, same-up (j + 1), down-other j e)
       (passed-client (b .log) (y .wrote) (w .server .passed) k (S .sizes .log) (Q .few) (Q .wrote) (getD (l .next) j 0) (getD (l .before) j 0)
-      (getD (l .lengths) j 0) (replyBytes l (b .replies) j) (getD (l .refused) j false) (invokeBytes (b .invokes) j) (w .up (j + 1)) (w .down (j + 1))
+      (getD (l .lengths) j 0) (queuedReply l (b .replies) j) (getD (l .refused) j false) (keptInvoke (b .invokes) j) (w .up (j + 1)) (w .down (j + 1))
       (near j g) quiet (S .client j g))
 
   sizes : Sizes (set rs i (q .after .replica)) (withoutReply l i) (relogged b log)

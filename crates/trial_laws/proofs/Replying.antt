@@ -17,7 +17,7 @@ use Rattle.progress.specs.HonestRuns as H
 use Rattle.progress.specs.HonestRuns.{World, act, deliverIn, deliverHead, serveHead, served, putOne, written}
 use Rattle.progress.proofs.Acting.{update-same}
 use Rattle.progress.proofs.OneWay.{replies, invokes, invoke-counted}
-use Rattle.trial_core.specs.Trial.{Lent, broadcastCount, logged, withoutReply, replyBytes, invokeBytes, repliedMove}
+use Rattle.trial_core.specs.Trial.{Lent, broadcastCount, logged, withoutReply, queuedReply, keptInvoke, repliedMove}
 use Rattle.trial_core.specs.declared.Lines.{Lines}
 use Rattle.trial_ways.proofs.Parts.{bool-cases}
 use Rattle.trial_ways.proofs.Ways.{Way, way-busy, way-taken}
@@ -37,7 +37,7 @@ module _ (rs : List Replica) (l : Lines) (b : Lent) (w : World) (S : Shows rs l 
   n = i + 1
 
   abbrev reply : List ℕ
-  reply = replyBytes l (b .replies) i
+  reply = queuedReply l (b .replies) i
 
   abbrev next : ℕ
   next = getD (l .next) i 0
@@ -55,7 +55,7 @@ module _ (rs : List Replica) (l : Lines) (b : Lent) (w : World) (S : Shows rs l 
   up-none : w .up n ≡ []
   up-none =
       let C = S .client i h in
-      let m = invokeBytes (b .invokes) i in
+      let m = keptInvoke (b .invokes) i in
       ⊎-elim
       (λ (t : getD (l .refused) i false ≡ true).
       let e : invokes (w .up n) ≡ suc (invokes []) = ap invokes (C .waits ∙ ap (λ (x : Bool). cond x (m ∷ []) []) t) ∙ invoke-counted m [] (C .asks t) in

@@ -17,7 +17,7 @@ use Rattle.trial_said.specs.Word.{Word, bad, full}
 use Rattle.trial_core.specs.Trial as T
 use Rattle.trial_core.specs.Trial.{Lent, Move, LineStep, isClient, replicaOf, moved, unmoved, invokeMove, deliverMove, commandStep, offerTo, againOf, againTrial, againLent, lineStep}
 use Rattle.trial_core.specs.declared.Trial.{Trial}
-use Rattle.trial_laws.specs.TrialRuns.{isFull, deliverActions, invokeActions, lineActions, invokeWord, deliverWord, lineVan, lineWord, offers, offered, afterLine}
+use Rattle.trial_laws.specs.TrialRuns.{someFull, deliverActions, invokeActions, lineActions, invokeWord, deliverWord, lineVan, lineWord, offers, offered, afterLine}
 use Rattle.trial_ways.proofs.Parts.{bool-cases}
 use Rattle.trial_ways.proofs.Reached.{Reached, reached-run}
 use Rattle.trial_ways.proofs.Shows.{Shows}
@@ -69,15 +69,15 @@ module _ (t : Trial) (b : Lent) (w : World) (S : Shown t b w) (R : Reached w) wh
       abbrev Invokes : LineStep → Type 0
       Invokes r = Result r (runFrom w (invokeActions w n kind cell amount)) n (invokeWord w n kind cell amount)
 
-      by-full : Invokes (step (isFull w 8) (w .replica n) (w .server))
+      by-full : Invokes (step (someFull w 8) (w .replica n) (w .server))
       unfolding invokeActions invokeWord
       by-full =
           ⊎-elim
-          (λ (e : isFull w 8 ≡ true). rw e (unmoved-result n full))
-          (λ (e : isFull w 8 ≡ false).
+          (λ (e : someFull w 8 ≡ true). rw e (unmoved-result n full))
+          (λ (e : someFull w 8 ≡ false).
           let G = invoke-move (t .replicas) (t .lines) b w (S .0) R i h e kind cell amount in
           rw e (moved-result i (invokeMove (w .replica n) (w .server) (t .lines) i kind cell amount b) _ _ (G .0) (G .1)))
-          (bool-cases (isFull w 8))
+          (bool-cases (someFull w 8))
 
       invoke-result : Invokes (step (T.isFull (t .lines .next) (t .server .passed) 8) (replicaOf t i) (t .server))
       invoke-result =

@@ -5,6 +5,7 @@ use mathlib.Core.Path.{_≡_}
 use mathlib.Core.List.{List, [], _∷_, _++_, List·Memᴰ}
 use mathlib.Core.Bool.{Bool, false, cond, _||_}
 use lib.Dec.{leb}
+use Rattle.message.specs.Layout.{clientCount, invokeLength, commitLength}
 use Rattle.message.specs.Message.{isReply}
 use Rattle.replica.specs.Outcome as O
 use Rattle.replica.specs.Outcome.{Told}
@@ -14,16 +15,9 @@ use Rattle.progress.specs.HonestRuns as H
 use Rattle.progress.specs.HonestRuns.{World, Line, Action, act, runFrom, start, toldIn}
 use Rattle.trial_words.specs.Words.{Asked, invoke, deliver, other}
 use Rattle.trial_said.specs.Word.{Word, empty, halt, bad, full}
+use Rattle.trial_core.specs.Sizes.{invokeRoom, commitRoom, fullAt}
 use Rattle.trial_core.specs.Trial.{Lent, lineStep, startTrial, startLent, trialKeys, toldWord, servedWord, isSuccess, isClient}
 use Rattle.trial_core.specs.declared.Trial.{Trial}
-
--- bytes lent to the server for an invoke (a reply of 32 items) and for a commit (32 broadcasts). A client is lent 43 for an invoke and 80
--- for a message: always enough
-abbrev pub invokeRoom : ℕ
-invokeRoom = 1315
-
-abbrev pub commitRoom : ℕ
-commitRoom = 2560
 
 -- ---- the actions of a line
 -- "An `IN` the relay refuses … is offered again, without printing, before each later line, lowest van first": clients 1 to n. (The server
@@ -38,9 +32,9 @@ broadcastsIn [] = 0
 broadcastsIn (m ∷ ms) = cond (isReply m) 0 1 + broadcastsIn ms
 
 -- "while 256 or more `BR`s are undelivered to some van": clients 1 to n
-unfoldable pub isFull : World → ℕ → Bool
-isFull w zero = false
-isFull w (suc n) = isFull w n || leb 256 (broadcastsIn (w .down (suc n)))
+unfoldable pub someFull : World → ℕ → Bool
+someFull w zero = false
+someFull w (suc n) = someFull w n || leb fullAt (broadcastsIn (w .down (suc n)))
 
 -- "`IN` and `CO` reach the relay without delay": the server takes what a call wrote
 unfoldable pub sent : ℕ → ℕ → Told → List Action
@@ -58,12 +52,12 @@ sentBy n (t ∷ ts) = sent n commitRoom t
 
 -- `D van`: "deliver the relay's next message"
 unfoldable pub deliverActions : World → ℕ → List Action
-deliverActions w n = H.deliver n 80 ∷ sentBy n (toldIn w (H.deliver n 80))
+deliverActions w n = H.deliver n commitLength ∷ sentBy n (toldIn w (H.deliver n commitLength))
 
 -- `I van kind cell amount`; while full, it "does nothing"
 unfoldable pub invokeActions : World → ℕ → ℕ → ℕ → ℕ → List Action
 invokeActions w n kind cell amount =
-    cond (isFull w 8) [] (H.invoke n kind cell amount 43 ∷ sent n invokeRoom (invokeStep (w .replica n) kind cell amount 43 .after .says))
+    cond (someFull w clientCount) [] (H.invoke n kind cell amount invokeLength ∷ sent n invokeRoom (invokeStep (w .replica n) kind cell amount invokeLength .after .says))
 
 unfoldable pub lineActions : World → Asked → List Action
 lineActions w other = []
@@ -82,8 +76,8 @@ invokedWord w n t = cond (isSuccess t) (headWord w n (w .up n)) (toldWord t)
 
 unfoldable pub invokeWord : World → ℕ → ℕ → ℕ → ℕ → Word
 invokeWord w n kind cell amount =
-    cond (isFull w 8) full
-    (invokedWord (act w (H.invoke n kind cell amount 43)) n (invokeStep (w .replica n) kind cell amount 43 .after .says))
+    cond (someFull w clientCount) full
+    (invokedWord (act w (H.invoke n kind cell amount invokeLength)) n (invokeStep (w .replica n) kind cell amount invokeLength .after .says))
 
 unfoldable pub deliverWord : List Told → Word
 deliverWord [] = empty
@@ -91,7 +85,7 @@ deliverWord (t ∷ ts) = toldWord t
 
 unfoldable pub lineWord : World → Asked → Word
 lineWord w other = bad
-lineWord w (deliver n) = cond (isClient n) (deliverWord (toldIn w (H.deliver n 80))) bad
+lineWord w (deliver n) = cond (isClient n) (deliverWord (toldIn w (H.deliver n commitLength))) bad
 lineWord w (invoke n kind cell amount) = cond (isClient n) (invokeWord w n kind cell amount) bad
 
 -- "A line of another form, or with a van not 1 to 8 or a number above 255, gives `bad`, with van 0"
@@ -103,7 +97,7 @@ lineVan (invoke n kind cell amount) = cond (isClient n) n 0
 -- ---- whole trials
 -- the world in which a line is done: the refused invokes have been offered again
 unfoldable pub offered : World → World
-offered w = runFrom w (offers 8)
+offered w = runFrom w (offers clientCount)
 
 -- the world after a line
 unfoldable pub afterLine : World → Asked → World
@@ -116,7 +110,7 @@ trialWorld w (a ∷ more) = trialWorld (afterLine w a) more
 
 unfoldable pub trialActions : World → List Asked → List Action
 trialActions w [] = []
-trialActions w (a ∷ more) = offers 8 ++ (lineActions (offered w) a ++ trialActions (afterLine w a) more)
+trialActions w (a ∷ more) = offers clientCount ++ (lineActions (offered w) a ++ trialActions (afterLine w a) more)
 
 unfoldable pub trialWords : World → List Asked → List (ℕ × Word)
 trialWords w [] = []

@@ -19,9 +19,9 @@ pub fn answers(
     number: u64,
     text: &[u8],
     out: &mut [u8],
-    log: &mut [u8; 40960],
-    replies: &mut [u8; 10520],
-    invokes: &mut [u8; 344],
+    log: &mut [u8; trial_core::LOG_LENGTH],
+    replies: &mut [u8; trial_core::REPLIES_LENGTH],
+    invokes: &mut [u8; trial_core::INVOKES_LENGTH],
 ) -> Answered
     requires { ⌜ number + length (now text) < 2 ^ 64 ⌝ }
     ensures { λ r. ⌜ Answers trial number (lentOf (now (log .entry)) (now (replies .entry)) (now (invokes .entry))) (now (text .entry)) (now (out .entry))

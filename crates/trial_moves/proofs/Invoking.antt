@@ -14,7 +14,7 @@ use Rattle.client_invoke.specs.Invoke.{invokeNo, invokeStep}
 use Rattle.server.specs.declared.Server.{Server}
 use Rattle.trial_core.specs.declared.Lines.{Lines}
 use Rattle.trial_core.proofs.Laws.{move-same}
-use Rattle.trial_core.specs.Trial.{Offering, Move, isSuccess, toldWord, invokeBytes, offer, invokedMove, stoppedMove, invokeMove}
+use Rattle.trial_core.specs.Trial.{Offering, Move, isSuccess, toldWord, keptInvoke, offer, invokedMove, stoppedMove, invokeMove}
 use Rattle.trial_core.specs.Moves.{lentOf}
 use Rattle.trial_offer.proofs.Parts.{over-fits, part-over, part-length}
 
@@ -64,8 +64,8 @@ module _ (r : Replica) (s : Server) (l : Lines) (i kind cell amount : ℕ) (log 
     unfolding invokeMove invokedMove
     invoke-goes t {o} eo =
         let u : isSuccess (q .after .says) ≡ true = ap (λ (x : After). isSuccess (x .says)) (sym after-is) ∙ t in
-        let m : take k (drop (i * 43) back) ≡ invokeBytes (put invokes (i * 43) (q .wrote)) i = ap (λ (x : ℕ). take x (drop (i * 43) back)) hk ∙ ap (λ (x : List ℕ). take 43 (drop (i * 43) x)) back-is in
-        let g : o ≡ offer s l i (invokeBytes (put invokes (i * 43) (q .wrote)) i) replies = eo ∙ ap (λ (x : List ℕ). offer s l i x replies) m in
+        let m : take k (drop (i * 43) back) ≡ keptInvoke (put invokes (i * 43) (q .wrote)) i = ap (λ (x : ℕ). take x (drop (i * 43) back)) hk ∙ ap (λ (x : List ℕ). take 43 (drop (i * 43) x)) back-is in
+        let g : o ≡ offer s l i (keptInvoke (put invokes (i * 43) (q .wrote)) i) replies = eo ∙ ap (λ (x : List ℕ). offer s l i x replies) m in
         rw u
         (move-same (ap (λ (x : After). x .replica) after-is) (ap (λ (x : Offering). x .server) g) (ap (λ (x : Offering). x .lines) g) (ap (λ (x : Offering). x .word) g) refl (ap (λ (x : Offering). x .replies) g) back-is)
 

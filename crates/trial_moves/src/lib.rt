@@ -3,6 +3,8 @@ ghost use mathlib.Core.Path.{_≡_};
 ghost use mathlib.Core.List.{List};
 ghost use Prim.Native.Nat.{ℕ, _<_, _≤_};
 ghost use lib.ListN.{getD, length};
+ghost use Rattle.message.specs.Layout.{clientCount};
+ghost use Rattle.trial_core.specs.Sizes.{invokeRoom, invokesLength, logLength, repliesLength};
 ghost use Rattle.trial_core.specs.Trial.{invokeMove, replyMove, deliverMove};
 ghost use Rattle.trial_core.specs.Moves.{moveOf, lentOf};
 use replica::Replica;
@@ -25,12 +27,12 @@ pub fn invoke(
     replies: &mut [u8],
     invokes: &mut [u8],
 ) -> Moved
-    requires { ⌜ (i < 8) × (length (now replies) ≡ 10520) × (length (now invokes) ≡ 344) ⌝ }
+    requires { ⌜ (i < clientCount) × (length (now replies) ≡ repliesLength) × (length (now invokes) ≡ invokesLength) ⌝ }
     ensures { λ q. ⌜ ((log : List ℕ) → moveOf q (lentOf log (now (replies .exit)) (now (invokes .exit)))
         ≡ invokeMove r s l i kind cell amount (lentOf log (now (replies .entry)) (now (invokes .entry)))) ⌝ }
 {
-    let at = i * 43;
-    let end = at + 43;
+    let at = i * message::INVOKE_LENGTH;
+    let end = at + message::INVOKE_LENGTH;
     let q = client::invoke(r, kind, cell, amount, &mut invokes[at..end]);
     let outcome = q.outcome;
     let replica = q.replica;
@@ -60,14 +62,14 @@ pub fn invoke(
 
 // Client `i` + 1 takes the reply at the head of its line; its commit reaches the server without delay.
 fn deliver_reply(r: Replica, s: Server, l: Lines, i: usize, log: &mut [u8], replies: &[u8]) -> Moved
-    requires { ⌜ (i < 8) × (getD (l .lengths) i 0 ≤ 1315) × (length (now log) ≡ 40960) × (length (now replies) ≡ 10520) ⌝ }
+    requires { ⌜ (i < clientCount) × (getD (l .lengths) i 0 ≤ invokeRoom) × (length (now log) ≡ logLength) × (length (now replies) ≡ repliesLength) ⌝ }
     ensures { λ q. ⌜ ((invokes : List ℕ) → moveOf q (lentOf (now (log .exit)) (now (replies .entry)) invokes)
         ≡ replyMove r s l i (lentOf (now (log .entry)) (now (replies .entry)) invokes)) ⌝ }
 {
     let lengths = l.lengths;
-    let at = i * 1315;
+    let at = i * trial_core::INVOKE_ROOM;
     let end = at + lengths[i] as usize;
-    let mut out = [0u8; 80];
+    let mut out = [0u8; message::COMMIT_LENGTH];
     let q = client::receive(r, &replies[at..end], &mut out);
     let outcome = q.outcome;
     let replica = q.replica;
@@ -93,7 +95,7 @@ fn deliver_reply(r: Replica, s: Server, l: Lines, i: usize, log: &mut [u8], repl
 
 // Client `i` + 1 takes the head of its line.
 pub fn deliver(r: Replica, s: Server, l: Lines, i: usize, log: &mut [u8], replies: &[u8]) -> Moved
-    requires { ⌜ (i < 8) × (length (now log) ≡ 40960) × (length (now replies) ≡ 10520) ⌝ }
+    requires { ⌜ (i < clientCount) × (length (now log) ≡ logLength) × (length (now replies) ≡ repliesLength) ⌝ }
     ensures { λ q. ⌜ ((invokes : List ℕ) → moveOf q (lentOf (now (log .exit)) (now (replies .entry)) invokes)
         ≡ deliverMove r s l i (lentOf (now (log .entry)) (now (replies .entry)) invokes)) ⌝ }
 {

@@ -1,7 +1,7 @@
 -- What the code of an offer hands back, as the definitions have it.
 use Prim.Native.Nat.{ℕ}
 use mathlib.Core.List.{List}
-use Rattle.trial_said.specs.Word.{word, empty}
+use Rattle.trial_said.specs.Word.{wordOf, empty}
 use Rattle.server.specs.declared.Server.{Server}
 use Rattle.trial_core.specs.declared.Lines.{Lines}
 use Rattle.trial_core.specs.Trial.{Offering, offerOne, offerTo}
@@ -10,7 +10,7 @@ use Rattle.trial_offer.specs.declared.Again.{Again}
 
 -- an offer and the replies after it
 abbrev pub offeringOf : Offered → List ℕ → Offering
-offeringOf q replies = record { server = q .server; lines = q .lines; word = word (q .said); replies = replies }
+offeringOf q replies = record { server = q .server; lines = q .lines; word = wordOf (q .said); replies = replies }
 
 -- an offer without its word, which is not printed where it is made again
 abbrev pub unsaid : Offering → Offering

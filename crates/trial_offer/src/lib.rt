@@ -4,6 +4,8 @@ ghost use mathlib.Core.Path.{_≡_};
 ghost use mathlib.Core.Bool.{cond};
 ghost use Prim.Native.Nat.{_+_, _*_, _<_};
 ghost use lib.ListN.{getD, length};
+ghost use Rattle.message.specs.Layout.{clientCount, itemLength, replyHead};
+ghost use Rattle.trial_core.specs.Sizes.{invokesLength, repliesLength};
 ghost use Rattle.trial_core.specs.Trial.{withReply, withRefused, offer};
 ghost use Rattle.trial_offer.specs.Offers.{offeringOf, againOffering, offeredOne, offeredTo};
 use server::Server;
@@ -26,14 +28,14 @@ pub struct Again {
 // The number of bytes of the reply at `at`.
 fn reply_length(replies: &[u8], at: usize) -> u32
     requires { ⌜ at + 2 < length (now replies) ⌝ }
-    ensures { λ r. ⌜ r ≡ 3 + getD (now (replies .entry)) (at + 2) 0 * 41 ⌝ }
+    ensures { λ r. ⌜ r ≡ replyHead + getD (now (replies .entry)) (at + 2) 0 * itemLength ⌝ }
 {
-    3 + replies[at + 2] as u32 * 41
+    message::REPLY_HEAD as u32 + replies[at + 2] as u32 * message::ITEM_LENGTH as u32
 }
 
 // The lines after the invoke of client `i` + 1 was offered.
 fn offered_lines(l: Lines, i: usize, placed: bool, passed: u32, length: u32) -> Lines
-    requires { ⌜ i < 8 ⌝ }
+    requires { ⌜ i < clientCount ⌝ }
     ensures { λ r. ⌜ r ≡ cond placed (withReply l i passed length) (withRefused l i) ⌝ }
 {
     if placed {
@@ -45,11 +47,11 @@ fn offered_lines(l: Lines, i: usize, placed: bool, passed: u32, length: u32) -> 
 
 // The server takes the invoke `m` of client `i` + 1: placed, its reply goes to the client's line; refused, the invoke waits.
 pub fn offer(s: Server, l: Lines, i: usize, m: &[u8], replies: &mut [u8]) -> Offered
-    requires { ⌜ (i < 8) × (length (now replies) ≡ 10520) ⌝ }
+    requires { ⌜ (i < clientCount) × (length (now replies) ≡ repliesLength) ⌝ }
     ensures { λ q. ⌜ offeringOf q (now (replies .exit)) ≡ offer s l i (now (m .entry)) (now (replies .entry)) ⌝ }
 {
-    let at = i * 1315;
-    let end = at + 1315;
+    let at = i * trial_core::INVOKE_ROOM;
+    let end = at + trial_core::INVOKE_ROOM;
     let q = server_receive::receive(s, (i + 1) as u8, m, &mut replies[at..end]);
     let outcome = q.outcome;
     let server = q.server;
@@ -66,13 +68,13 @@ pub fn offer(s: Server, l: Lines, i: usize, m: &[u8], replies: &mut [u8]) -> Off
 
 // Offers the refused invoke of client `i` + 1, if there is one and the server has a place.
 fn offer_one(s: Server, l: Lines, i: usize, replies: &mut [u8], invokes: &[u8]) -> Again
-    requires { ⌜ (i < 8) × (length (now replies) ≡ 10520) × (length (now invokes) ≡ 344) ⌝ }
+    requires { ⌜ (i < clientCount) × (length (now replies) ≡ repliesLength) × (length (now invokes) ≡ invokesLength) ⌝ }
     ensures { λ q. ⌜ againOffering q (now (replies .exit)) ≡ offeredOne s l i (now (replies .entry)) (now (invokes .entry)) ⌝ }
 {
     let refused = l.refused;
     if refused[i] & trial_room::has_place(s) {
-        let at = i * 43;
-        let end = at + 43;
+        let at = i * message::INVOKE_LENGTH;
+        let end = at + message::INVOKE_LENGTH;
         let o = offer(s, l, i, &invokes[at..end], replies);
         let server = o.server;
         let lines = o.lines;
@@ -87,8 +89,8 @@ fn offer_one(s: Server, l: Lines, i: usize, replies: &mut [u8], invokes: &[u8]) 
 
 // Offers the refused invokes again, lowest client first.
 pub fn offer_again(s: Server, l: Lines, replies: &mut [u8], invokes: &[u8]) -> Again
-    requires { ⌜ (length (now replies) ≡ 10520) × (length (now invokes) ≡ 344) ⌝ }
-    ensures { λ q. ⌜ againOffering q (now (replies .exit)) ≡ offeredTo 8 s l (now (replies .entry)) (now (invokes .entry)) ⌝ }
+    requires { ⌜ (length (now replies) ≡ repliesLength) × (length (now invokes) ≡ invokesLength) ⌝ }
+    ensures { λ q. ⌜ againOffering q (now (replies .exit)) ≡ offeredTo clientCount s l (now (replies .entry)) (now (invokes .entry)) ⌝ }
 {
     let mut server = s;
     let mut lines = l;

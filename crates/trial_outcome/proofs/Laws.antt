@@ -6,9 +6,9 @@ use Rattle.replica.specs.declared.Event.the-variants as D
 use Rattle.replica.specs.Outcome.{eventTold}
 use Rattle.trial_core.specs.Trial.{isSuccess}
 
-pub done-success : (d : Event) → true ≡ isSuccess (eventTold d)
-done-success D.Opened = refl
-done-success (D.Invoked n) = refl
-done-success (D.Responded p a) = refl
-done-success (D.Aborted p) = refl
-done-success (D.Confirmed p s) = refl
+pub event-success : (d : Event) → true ≡ isSuccess (eventTold d)
+event-success D.Opened = refl
+event-success (D.Invoked n) = refl
+event-success (D.Responded p a) = refl
+event-success (D.Aborted p) = refl
+event-success (D.Confirmed p s) = refl

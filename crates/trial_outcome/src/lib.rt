@@ -1,6 +1,6 @@
 // What an outcome of a client or of the server prints, and whether it is a success. Definitions: specs/Trial.antt of trial_core.
 ghost use mathlib.Core.Path.{_≡_};
-ghost use Rattle.trial_said.specs.Word.{word};
+ghost use Rattle.trial_said.specs.Word.{wordOf};
 ghost use Rattle.replica.specs.Outcome as O;
 ghost use Rattle.server.specs.Server as S;
 ghost use Rattle.trial_core.specs.Trial.{toldWord, servedWord, isSuccess, isPlaced, broadcastCount};
@@ -10,10 +10,10 @@ use server::ServerEvent;
 use server::ServerOutcome;
 use trial_said::Said;
 
-fn done_said(done: Event) -> Said
-    ensures { λ r. ⌜ word r ≡ toldWord (O.eventTold done) ⌝ }
+fn event_said(event: Event) -> Said
+    ensures { λ r. ⌜ wordOf r ≡ toldWord (O.eventTold event) ⌝ }
 {
-    match done {
+    match event {
         Event::Opened => Said::Empty,
         Event::Invoked(_) => Said::Empty,
         Event::Responded { seq, response } => Said::Answer {
@@ -27,10 +27,10 @@ fn done_said(done: Event) -> Said
 
 // What a client's outcome prints.
 pub fn told_said(outcome: Outcome) -> Said
-    ensures { λ r. ⌜ word r ≡ toldWord (O.told outcome) ⌝ }
+    ensures { λ r. ⌜ wordOf r ≡ toldWord (O.told outcome) ⌝ }
 {
     match outcome {
-        Outcome::Success(done) => done_said(done),
+        Outcome::Success(event) => event_said(event),
         Outcome::Refused(why) => Said::No(replica::refusal_number(why)),
         Outcome::Halted(why) => Said::Halt(replica::halt_number(why)),
     }
@@ -47,10 +47,10 @@ pub fn is_success(outcome: Outcome) -> bool
     }
 }
 
-fn served_done(done: ServerEvent) -> Said
-    ensures { λ r. ⌜ word r ≡ servedWord (S.eventTold done) ⌝ }
+fn served_event_said(event: ServerEvent) -> Said
+    ensures { λ r. ⌜ wordOf r ≡ servedWord (S.eventTold event) ⌝ }
 {
-    match done {
+    match event {
         ServerEvent::Placed(p) => Said::Placed(p),
         ServerEvent::Broadcast(_) => Said::Empty,
     }
@@ -58,18 +58,18 @@ fn served_done(done: ServerEvent) -> Said
 
 // What the server's outcome prints.
 pub fn served_said(outcome: ServerOutcome) -> Said
-    ensures { λ r. ⌜ word r ≡ servedWord (S.told outcome) ⌝ }
+    ensures { λ r. ⌜ wordOf r ≡ servedWord (S.told outcome) ⌝ }
 {
     match outcome {
-        ServerOutcome::Success(done) => served_done(done),
+        ServerOutcome::Success(event) => served_event_said(event),
         ServerOutcome::Refused(why) => Said::No(server::refusal_number(why)),
     }
 }
 
-fn done_placed(done: ServerEvent) -> bool
-    ensures { λ r. ⌜ r ≡ isPlaced (S.eventTold done) ⌝ }
+fn event_placed(event: ServerEvent) -> bool
+    ensures { λ r. ⌜ r ≡ isPlaced (S.eventTold event) ⌝ }
 {
-    match done {
+    match event {
         ServerEvent::Placed(_) => true,
         ServerEvent::Broadcast(_) => false,
     }
@@ -80,15 +80,15 @@ pub fn is_placed(outcome: ServerOutcome) -> bool
     ensures { λ r. ⌜ r ≡ isPlaced (S.told outcome) ⌝ }
 {
     match outcome {
-        ServerOutcome::Success(done) => done_placed(done),
+        ServerOutcome::Success(event) => event_placed(event),
         ServerOutcome::Refused(_) => false,
     }
 }
 
-fn done_count(done: ServerEvent) -> u32
-    ensures { λ r. ⌜ r ≡ broadcastCount (S.eventTold done) ⌝ }
+fn event_count(event: ServerEvent) -> u32
+    ensures { λ r. ⌜ r ≡ broadcastCount (S.eventTold event) ⌝ }
 {
-    match done {
+    match event {
         ServerEvent::Placed(_) => 0,
         ServerEvent::Broadcast(n) => n,
     }
@@ -99,7 +99,7 @@ pub fn broadcast_count(outcome: ServerOutcome) -> u32
     ensures { λ r. ⌜ r ≡ broadcastCount (S.told outcome) ⌝ }
 {
     match outcome {
-        ServerOutcome::Success(done) => done_count(done),
+        ServerOutcome::Success(event) => event_count(event),
         ServerOutcome::Refused(_) => 0,
     }
 }

@@ -9,7 +9,7 @@ use Rattle.slices.specs.Bytes.{same}
 use Rattle.slices.proofs.Laws.{and-yes}
 use Rattle.text.specs.Text.{cut}
 use Rattle.text.proofs.Laws.{either}
-use Rattle.trial_words.specs.Words.{Asked, invoke, deliver, other, value, fromWords}
+use Rattle.trial_words.specs.Words.{Asked, invoke, deliver, other, wordNumber, fromWords}
 use Rattle.trial_parse.specs.Parse.{parse}
 use Rattle.trial_words.proofs.Laws.{wordsFit, invoke-most}
 
@@ -36,16 +36,16 @@ unfolding fromWords
 words-range [] = other-in
 words-range (w ∷ []) = other-in
 words-range (w ∷ v ∷ []) =
-    either (same w (68 ∷ []) && leb 1 (value v) && leb (value v) 8)
-    (λ e. let h = van-in (same w (68 ∷ [])) (value v) e in rw e (deliver-in (h .0) (h .1)))
+    either (same w (68 ∷ []) && leb 1 (wordNumber v) && leb (wordNumber v) 8)
+    (λ e. let h = van-in (same w (68 ∷ [])) (wordNumber v) e in rw e (deliver-in (h .0) (h .1)))
     (λ e. rw e other-in)
 words-range (w ∷ v ∷ k ∷ []) = other-in
 words-range (w ∷ v ∷ k ∷ c ∷ []) = other-in
 words-range (w ∷ v ∷ k ∷ c ∷ a ∷ []) =
-    either (wordsFit (same w (73 ∷ [])) (value v) (value k) (value c) (value a))
+    either (wordsFit (same w (73 ∷ [])) (wordNumber v) (wordNumber k) (wordNumber c) (wordNumber a))
     (λ e.
-    let h = invoke-most (same w (73 ∷ [])) (value v) (value k) (value c) (value a) e in
-    rw e (invoke-in (invoke-low (same w (73 ∷ [])) (value v) (value k) (value c) (value a) e) (h .0) (h .1) (h .2) (h .3)))
+    let h = invoke-most (same w (73 ∷ [])) (wordNumber v) (wordNumber k) (wordNumber c) (wordNumber a) e in
+    rw e (invoke-in (invoke-low (same w (73 ∷ [])) (wordNumber v) (wordNumber k) (wordNumber c) (wordNumber a) e) (h .0) (h .1) (h .2) (h .3)))
     (λ e. rw e other-in)
 words-range (w ∷ v ∷ k ∷ c ∷ a ∷ x ∷ ws) = other-in
 

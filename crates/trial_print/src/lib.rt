@@ -3,15 +3,15 @@ ghost use mathlib.Core.Path.{_≡_};
 ghost use Prim.Native.Nat.{_+_, _≤_};
 ghost use lib.ListN.{length};
 ghost use Rattle.slices.specs.Bytes.{put};
-ghost use Rattle.trial_said.specs.Word.{word};
+ghost use Rattle.trial_said.specs.Word.{wordOf};
 ghost use Rattle.trial_print.specs.Line.{lineBytes};
 use trial_said::Said;
 
 // Writes the line that a line of input gives. 64 bytes are enough.
 pub fn put_line(out: &mut [u8], at: usize, number: u64, van: u8, said: Said) -> usize
     requires { ⌜ at + 64 ≤ length (now out) ⌝ }
-    ensures { λ r. ⌜ (r ≡ at + length (lineBytes number van (word said)))
-        × (now (out .exit) ≡ put (now (out .entry)) at (lineBytes number van (word said)))
+    ensures { λ r. ⌜ (r ≡ at + length (lineBytes number van (wordOf said)))
+        × (now (out .exit) ≡ put (now (out .entry)) at (lineBytes number van (wordOf said)))
         × (r ≤ at + 64) ⌝ }
 {
     let i = text::decimal(out, at, number);

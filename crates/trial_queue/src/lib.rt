@@ -2,12 +2,13 @@
 ghost use mathlib.Core.Path.{_≡_};
 ghost use mathlib.Core.Bool.{true};
 ghost use Prim.Native.Nat.{_<_};
+ghost use Rattle.message.specs.Layout.{clientCount};
 ghost use Rattle.trial_core.specs.Trial.{withReply, withRefused, withoutReply, withoutBroadcast, replyFirst, broadcastFirst};
 use trial_core::Lines;
 
 // The lines with a reply at the end of that to client `i` + 1, which now has no invoke to be offered again.
 pub fn with_reply(l: Lines, i: usize, passed: u32, length: u32) -> Lines
-    requires { ⌜ i < 8 ⌝ }
+    requires { ⌜ i < clientCount ⌝ }
     ensures { λ r. ⌜ r ≡ withReply l i passed length ⌝ }
 {
     let mut t = l;
@@ -19,7 +20,7 @@ pub fn with_reply(l: Lines, i: usize, passed: u32, length: u32) -> Lines
 
 // The lines with the invoke of client `i` + 1 to be offered again.
 pub fn with_refused(l: Lines, i: usize) -> Lines
-    requires { ⌜ i < 8 ⌝ }
+    requires { ⌜ i < clientCount ⌝ }
     ensures { λ r. ⌜ r ≡ withRefused l i ⌝ }
 {
     let mut t = l;
@@ -29,7 +30,7 @@ pub fn with_refused(l: Lines, i: usize) -> Lines
 
 // The lines without the reply to client `i` + 1.
 pub fn without_reply(l: Lines, i: usize) -> Lines
-    requires { ⌜ i < 8 ⌝ }
+    requires { ⌜ i < clientCount ⌝ }
     ensures { λ r. ⌜ r ≡ withoutReply l i ⌝ }
 {
     let mut t = l;
@@ -39,7 +40,7 @@ pub fn without_reply(l: Lines, i: usize) -> Lines
 
 // The lines without the broadcast that is next to client `i` + 1.
 pub fn without_broadcast(l: Lines, i: usize, passed: u32) -> Lines
-    requires { ⌜ (i < 8) × (broadcastFirst l i passed ≡ true) ⌝ }
+    requires { ⌜ (i < clientCount) × (broadcastFirst l i passed ≡ true) ⌝ }
     ensures { λ r. ⌜ r ≡ withoutBroadcast l i ⌝ }
 {
     let next = l.next;
@@ -51,18 +52,18 @@ pub fn without_broadcast(l: Lines, i: usize, passed: u32) -> Lines
 
 // Whether the head of the line to client `i` + 1 is its reply.
 pub fn reply_first(l: Lines, i: usize) -> bool
-    requires { ⌜ i < 8 ⌝ }
+    requires { ⌜ i < clientCount ⌝ }
     ensures { λ r. ⌜ r ≡ replyFirst l i ⌝ }
 {
     let next = l.next;
     let before = l.before;
     let lengths = l.lengths;
-    (lengths[i] != 0) & (lengths[i] <= 1315) & (before[i] == next[i])
+    (lengths[i] != 0) & (lengths[i] <= trial_core::INVOKE_ROOM as u32) & (before[i] == next[i])
 }
 
 // Whether a broadcast is next to client `i` + 1, where it is not the reply.
 pub fn broadcast_first(l: Lines, i: usize, passed: u32) -> bool
-    requires { ⌜ i < 8 ⌝ }
+    requires { ⌜ i < clientCount ⌝ }
     ensures { λ r. ⌜ r ≡ broadcastFirst l i passed ⌝ }
 {
     let next = l.next;

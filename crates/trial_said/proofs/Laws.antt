@@ -8,7 +8,7 @@ use Rattle.slices.specs.Bytes.{put}
 use Rattle.text.specs.Text.{decimalOf}
 use Rattle.text.proofs.Laws.{decimal-most, put-put}
 use Rattle.trial_said.specs.declared.Said.{Said}
-use Rattle.trial_said.specs.Word.{word, wordBytes}
+use Rattle.trial_said.specs.Word.{wordOf, wordBytes}
 
 -- x is z with t put at at, and p the place after it
 pub record Wrote (z : List ℕ) (at : ℕ) (t x : List ℕ) (p : ℕ) : Type 0 where
@@ -30,8 +30,8 @@ digits-32 n h = decimal-most 9 n (omega arith)
 pub said-is :
     (z y : List ℕ) (at q : ℕ) (s t : Said) →
     s ≡ t →
-    q ≡ at + length (wordBytes (word t)) →
-    y ≡ put z at (wordBytes (word t)) →
+    q ≡ at + length (wordBytes (wordOf t)) →
+    y ≡ put z at (wordBytes (wordOf t)) →
     q ≤ at + 29 →
-    (q ≡ at + length (wordBytes (word s))) × (y ≡ put z at (wordBytes (word s))) × (q ≤ at + 29)
+    (q ≡ at + length (wordBytes (wordOf s))) × (y ≡ put z at (wordBytes (wordOf s))) × (q ≤ at + 29)
 said-is z y at q s t k a b h = rw k (a, b, h)

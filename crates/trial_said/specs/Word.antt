@@ -18,16 +18,16 @@ pub data Word : Type 0 where
   full : Word
 
 -- the values of the enum's cases
-abbrev pub word : Said → Word
-word (S.Placed p) = placed p
-word (S.Answer p a) = answer p a
-word (S.Aside p) = aside p
-word (S.Confirm p s) = confirm p s
-word S.Empty = empty
-word (S.No n) = nay n
-word (S.Halt n) = halt n
-word S.Bad = bad
-word S.Full = full
+abbrev pub wordOf : Said → Word
+wordOf (S.Placed p) = placed p
+wordOf (S.Answer p a) = answer p a
+wordOf (S.Aside p) = aside p
+wordOf (S.Confirm p s) = confirm p s
+wordOf S.Empty = empty
+wordOf (S.No n) = nay n
+wordOf (S.Halt n) = halt n
+wordOf S.Bad = bad
+wordOf S.Full = full
 
 -- a number after a space
 abbrev pub datum : ℕ → List ℕ

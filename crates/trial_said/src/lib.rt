@@ -4,7 +4,7 @@ ghost use mathlib.Core.List.{_++_};
 ghost use Prim.Native.Nat.{_+_, _≤_};
 ghost use lib.ListN.{length};
 ghost use Rattle.slices.specs.Bytes.{put};
-ghost use Rattle.trial_said.specs.Word.{word, datum, wordBytes};
+ghost use Rattle.trial_said.specs.Word.{wordOf, datum, wordBytes};
 
 // What a line of input gives.
 pub enum Said {
@@ -63,8 +63,8 @@ fn put_two(out: &mut [u8], at: usize, s: &[u8], m: u32, n: u32) -> usize
 // The word and its data. 29 bytes are enough.
 pub fn put_said(out: &mut [u8], at: usize, said: Said) -> usize
     requires { ⌜ at + 29 ≤ length (now out) ⌝ }
-    ensures { λ r. ⌜ (r ≡ at + length (wordBytes (word said)))
-        × (now (out .exit) ≡ put (now (out .entry)) at (wordBytes (word said)))
+    ensures { λ r. ⌜ (r ≡ at + length (wordBytes (wordOf said)))
+        × (now (out .exit) ≡ put (now (out .entry)) at (wordBytes (wordOf said)))
         × (r ≤ at + 29) ⌝ }
 {
     match said {

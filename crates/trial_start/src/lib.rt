@@ -1,33 +1,34 @@
 // The trial program's start (document 01, "Cases"). Definitions: specs/Trial.antt of trial_core.
 ghost use mathlib.Core.Path.{_≡_};
 ghost use lib.ListN.{replicate};
+ghost use Rattle.message.specs.Layout.{keyLength, keysLength};
 ghost use Rattle.client_open.specs.Open.{openStep};
 ghost use Rattle.trial_core.specs.Trial.{trialKeys, startTrial};
 use replica::Replica;
 use trial_core::Lines;
 use trial_core::Trial;
 
-fn key(n: u8) -> [u8; 32]
-    ensures { λ r. ⌜ r ≡ replicate 32 n ⌝ }
+fn key(n: u8) -> [u8; message::KEY_LENGTH]
+    ensures { λ r. ⌜ r ≡ replicate keyLength n ⌝ }
 {
-    [n; 32]
+    [n; message::KEY_LENGTH]
 }
 
-fn no_keys() -> [u8; 256]
-    ensures { λ r. ⌜ r ≡ replicate 256 0 ⌝ }
+fn no_keys() -> [u8; message::KEYS_LENGTH]
+    ensures { λ r. ⌜ r ≡ replicate keysLength 0 ⌝ }
 {
-    [0u8; 256]
+    [0u8; message::KEYS_LENGTH]
 }
 
 // Client j's key: 32 bytes of value j.
-fn keys() -> [u8; 256]
+fn keys() -> [u8; message::KEYS_LENGTH]
     ensures { λ r. ⌜ r ≡ trialKeys ⌝ }
 {
     let mut keys = no_keys();
     let mut i = 0usize;
-    while i < 8 {
+    while i < trial_core::CLIENTS {
         let k = key((i + 1) as u8);
-        slices::copy_to(&mut keys, i * 32, &k);
+        slices::copy_to(&mut keys, i * message::KEY_LENGTH, &k);
         i += 1;
     }
     keys
@@ -45,10 +46,10 @@ fn no_lines() -> Lines
     ensures { λ r. ⌜ r ≡ startTrial .lines ⌝ }
 {
     Lines {
-        next: [0u32; 8],
-        before: [0u32; 8],
-        lengths: [0u32; 8],
-        refused: [false; 8],
+        next: [0u32; trial_core::CLIENTS],
+        before: [0u32; trial_core::CLIENTS],
+        lengths: [0u32; trial_core::CLIENTS],
+        refused: [false; trial_core::CLIENTS],
     }
 }
 

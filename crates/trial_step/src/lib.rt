@@ -4,6 +4,7 @@ ghost use mathlib.Core.List.{List};
 ghost use mathlib.Core.Bool.{true};
 ghost use Prim.Native.Nat.{ℕ};
 ghost use lib.ListN.{length};
+ghost use Rattle.trial_core.specs.Sizes.{invokesLength, logLength, repliesLength};
 ghost use Rattle.trial_words.specs.Words.{asked, deliver};
 ghost use Rattle.trial_core.specs.Trial.{isClient, againOf, againTrial, commandStep, lineStep};
 ghost use Rattle.trial_core.specs.Moves.{lentOf};
@@ -16,7 +17,7 @@ use trial_words::Command;
 
 // A client takes the head of its line.
 fn deliver(t: Trial, van: u8, log: &mut [u8], replies: &[u8]) -> Result
-    requires { ⌜ (isClient van ≡ true) × (length (now log) ≡ 40960) × (length (now replies) ≡ 10520) ⌝ }
+    requires { ⌜ (isClient van ≡ true) × (length (now log) ≡ logLength) × (length (now replies) ≡ repliesLength) ⌝ }
     ensures { λ q. ⌜ ((invokes : List ℕ) → lineOf q (lentOf (now (log .exit)) (now (replies .entry)) invokes)
         ≡ commandStep t (lentOf (now (log .entry)) (now (replies .entry)) invokes) (deliver van)) ⌝ }
 {
@@ -33,7 +34,7 @@ fn deliver(t: Trial, van: u8, log: &mut [u8], replies: &[u8]) -> Result
 
 // The trial after the refused invokes are offered again.
 fn offered_again(t: Trial, replies: &mut [u8], invokes: &[u8]) -> Trial
-    requires { ⌜ (length (now replies) ≡ 10520) × (length (now invokes) ≡ 344) ⌝ }
+    requires { ⌜ (length (now replies) ≡ repliesLength) × (length (now invokes) ≡ invokesLength) ⌝ }
     ensures { λ q. ⌜ ((log : List ℕ) → (q ≡ againTrial t (againOf t (lentOf log (now (replies .entry)) (now (invokes .entry)))))
         × (now (replies .exit) ≡ againOf t (lentOf log (now (replies .entry)) (now (invokes .entry))) .replies)) ⌝ }
 {
@@ -58,7 +59,7 @@ fn obeyed(
     replies: &mut [u8],
     invokes: &mut [u8],
 ) -> Result
-    requires { ⌜ (length (now log) ≡ 40960) × (length (now replies) ≡ 10520) × (length (now invokes) ≡ 344) ⌝ }
+    requires { ⌜ (length (now log) ≡ logLength) × (length (now replies) ≡ repliesLength) × (length (now invokes) ≡ invokesLength) ⌝ }
     ensures { λ q. ⌜ lineOf q (lentOf (now (log .exit)) (now (replies .exit)) (now (invokes .exit)))
         ≡ commandStep t (lentOf (now (log .entry)) (now (replies .entry)) (now (invokes .entry))) (asked command) ⌝ }
 {
@@ -90,9 +91,9 @@ fn obeyed(
 pub fn step(
     trial: Trial,
     command: Command,
-    log: &mut [u8; 40960],
-    replies: &mut [u8; 10520],
-    invokes: &mut [u8; 344],
+    log: &mut [u8; trial_core::LOG_LENGTH],
+    replies: &mut [u8; trial_core::REPLIES_LENGTH],
+    invokes: &mut [u8; trial_core::INVOKES_LENGTH],
 ) -> Result
     ensures { λ q. ⌜ lineOf q (lentOf (now (log .exit)) (now (replies .exit)) (now (invokes .exit)))
         ≡ lineStep trial (lentOf (now (log .entry)) (now (replies .entry)) (now (invokes .entry))) (asked command) ⌝ }

@@ -1,6 +1,6 @@
 -- What the code of a line hands back, as the definitions have it.
 use mathlib.Core.List.{List}
-use Rattle.trial_said.specs.Word.{word}
+use Rattle.trial_said.specs.Word.{wordOf}
 use Rattle.replica.specs.declared.Replica.{Replica}
 use Rattle.server.specs.declared.Server.{Server}
 use Rattle.trial_core.specs.declared.Lines.{Lines}
@@ -13,4 +13,4 @@ trialWith replicas server lines = record { replicas = replicas; server = server;
 
 -- a result and the bytes lent after it
 abbrev pub lineOf : Result → Lent → LineStep
-lineOf q b = record { trial = q .trial; lent = b; van = q .van; word = word (q .said) }
+lineOf q b = record { trial = q .trial; lent = b; van = q .van; word = wordOf (q .said) }

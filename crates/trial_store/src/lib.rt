@@ -5,6 +5,7 @@ ghost use Prim.Native.Nat.{ℕ, _<_};
 ghost use lib.ListN.{getD, set};
 ghost use Rattle.replica.specs.Replica.{zeroReplica};
 ghost use Rattle.trial_said.specs.Word.{bad};
+ghost use Rattle.message.specs.Layout.{clientCount};
 ghost use Rattle.trial_core.specs.Trial.{isClient, unmoved};
 ghost use Rattle.trial_core.specs.Moves.{lentOf};
 ghost use Rattle.trial_store.specs.Step.{lineOf, trialWith};
@@ -21,15 +22,19 @@ pub struct Result {
 }
 
 // The replica of client `i` + 1.
-pub fn replica_at(replicas: [Replica; 8], i: usize) -> Replica
-    requires { ⌜ i < 8 ⌝ }
+pub fn replica_at(replicas: [Replica; trial_core::CLIENTS], i: usize) -> Replica
+    requires { ⌜ i < clientCount ⌝ }
     ensures { λ q. ⌜ q ≡ getD replicas i zeroReplica ⌝ }
 {
     replicas[i]
 }
 
-fn with_replica(replicas: [Replica; 8], i: usize, r: Replica) -> [Replica; 8]
-    requires { ⌜ i < 8 ⌝ }
+fn with_replica(
+    replicas: [Replica; trial_core::CLIENTS],
+    i: usize,
+    r: Replica,
+) -> [Replica; trial_core::CLIENTS]
+    requires { ⌜ i < clientCount ⌝ }
     ensures { λ q. ⌜ q ≡ set replicas i r ⌝ }
 {
     let mut t = replicas;
@@ -38,8 +43,8 @@ fn with_replica(replicas: [Replica; 8], i: usize, r: Replica) -> [Replica; 8]
 }
 
 // The trial with what a move of client `i` + 1 left.
-pub fn stored(replicas: [Replica; 8], i: usize, m: Moved) -> Trial
-    requires { ⌜ i < 8 ⌝ }
+pub fn stored(replicas: [Replica; trial_core::CLIENTS], i: usize, m: Moved) -> Trial
+    requires { ⌜ i < clientCount ⌝ }
     ensures { λ q. ⌜ q ≡ trialWith (set replicas i (m .replica)) (m .server) (m .lines) ⌝ }
 {
     let r = m.replica;
@@ -57,7 +62,7 @@ pub fn stored(replicas: [Replica; 8], i: usize, m: Moved) -> Trial
 pub fn is_client(van: u8) -> bool
     ensures { λ r. ⌜ r ≡ isClient van ⌝ }
 {
-    (1 <= van) & (van <= 8)
+    (1 <= van) & (van <= message::CLIENTS)
 }
 
 // A line of another form, or of no client.

@@ -18,7 +18,7 @@ use Rattle.progress.specs.HonestRuns as H
 use Rattle.progress.specs.HonestRuns.{World, Line, act, serveHead, served, update, putOne, written}
 use Rattle.progress.proofs.Acting.{update-same, update-other}
 use Rattle.progress.proofs.OneWay.{replies, invokes, invoke-counted, reply-1315}
-use Rattle.trial_core.specs.Trial.{Lent, Offering, offer, offeredLines, withReply, withRefused, isPlaced, replyBytes, invokeBytes}
+use Rattle.trial_core.specs.Trial.{Lent, Offering, offer, offeredLines, withReply, withRefused, isPlaced, queuedReply, keptInvoke}
 use Rattle.trial_core.specs.declared.Lines.{Lines}
 use Rattle.trial_ways.proofs.Parts.{bool-cases, part-put, part-other, put-none}
 use Rattle.trial_ways.proofs.Ways.{Way, way-reply, way-idle, way-small}
@@ -42,7 +42,7 @@ placedWorld w n y =
 module _ (rs : List Replica) (l : Lines) (b : Lent) (w : World) (S : Shows rs l b w) (R : Reached w) (i : ℕ) (h : i < 8)
     (waiting : getD (l .refused) i false ≡ true) where
   abbrev m : List ℕ
-  m = invokeBytes (b .invokes) i
+  m = keptInvoke (b .invokes) i
 
   abbrev n : ℕ
   n = i + 1
@@ -61,7 +61,7 @@ module _ (rs : List Replica) (l : Lines) (b : Lent) (w : World) (S : Shows rs l 
 
   none-there : getD (l .lengths) i 0 ≡ 0
   none-there =
-      way-idle (b .log) (w .server .passed) (getD (l .next) i 0) (getD (l .before) i 0) (getD (l .lengths) i 0) (replyBytes l (b .replies) i) (w .down n)
+      way-idle (b .log) (w .server .passed) (getD (l .next) i 0) (getD (l .before) i 0) (getD (l .lengths) i 0) (queuedReply l (b .replies) i) (w .down n)
       idle (S .client i h .way)
 
   -- ---- placed
@@ -95,7 +95,7 @@ module _ (rs : List Replica) (l : Lines) (b : Lent) (w : World) (S : Shows rs l 
 
     own-way : Way (b .log) (w .server .passed) (getD (l .next) i 0) (w .server .passed) (length (y .wrote)) (y .wrote) (w .down n ++ (y .wrote ∷ []))
     own-way =
-        way-reply (b .log) (w .server .passed) (getD (l .next) i 0) (getD (l .before) i 0) (getD (l .lengths) i 0) (replyBytes l (b .replies) i) (w .down n)
+        way-reply (b .log) (w .server .passed) (getD (l .next) i 0) (getD (l .before) i 0) (getD (l .lengths) i 0) (queuedReply l (b .replies) i) (w .down n)
         (y .wrote) (length (y .wrote)) none-there some few reply-form (S .client i h .way)
 
     own : ClientAt l2 b2 v i
@@ -117,7 +117,7 @@ module _ (rs : List Replica) (l : Lines) (b : Lent) (w : World) (S : Shows rs l 
     unfolding placedWorld withReply putOne
     other j g e =
         let small =
-        way-small (b .log) (w .server .passed) (getD (l .next) j 0) (getD (l .before) j 0) (getD (l .lengths) j 0) (replyBytes l (b .replies) j) (w .down (j + 1))
+        way-small (b .log) (w .server .passed) (getD (l .next) j 0) (getD (l .before) j 0) (getD (l .lengths) j 0) (queuedReply l (b .replies) j) (w .down (j + 1))
         (S .client j g .way) in
         rw (
           P .passed,

@@ -9,7 +9,7 @@ use native.Mathlib.Omega.{arith}
 use Rattle.message.specs.Message.{isReply}
 use Rattle.client_laws.proofs.Chain.{le-or-lt}
 use Rattle.progress.specs.HonestRuns.{Line, pieces}
-use Rattle.trial_core.specs.Trial.{broadcastBytes, logged}
+use Rattle.trial_core.specs.Trial.{loggedBroadcast, logged}
 use Rattle.trial_ways.proofs.Ring.{logFrom, logged-kept, new-pieces}
 use Rattle.trial_ways.proofs.Ways.{Way, Quiet, way-log, way-more}
 use Rattle.trial_ways.proofs.Shows.{Client}
@@ -23,7 +23,7 @@ module _ (log bytes : List ℕ) (passed k : ℕ) (z : length log ≡ 40960) (few
 
   -- a client that is at most 295 behind
   module _ (next before len : ℕ) (reply : List ℕ) (refused : Bool) (invoke : List ℕ) (u d : Line) (near : passed + k ≤ next + 295) where
-    kept : (j : ℕ) → next ≤ j → j < passed → broadcastBytes new j ≡ broadcastBytes log j
+    kept : (j : ℕ) → next ≤ j → j < passed → loggedBroadcast new j ≡ loggedBroadcast log j
     kept j g h = logged-kept log bytes z passed k j (omega arith) h (omega arith)
 
     still-quiet : Quiet new passed (passed + k) → Quiet log next passed → Quiet new next (passed + k)

@@ -9,7 +9,7 @@ use native.Mathlib.Omega.{arith}
 use native.Mathlib.Nat.{eq-or-lt-of-le, le-of-suc-le-suc}
 use Rattle.slices.proofs.Laws.{put-length}
 use Rattle.progress.specs.HonestRuns.{Line, pieces}
-use Rattle.trial_core.specs.Trial.{broadcastBytes, logged}
+use Rattle.trial_core.specs.Trial.{loggedBroadcast, logged}
 use Rattle.trial_ways.proofs.Parts.{part-put, part-other}
 
 apart : (p q : ℕ) → p < q → q < p + 512 → p % 512 ≡ q % 512 → ⊥
@@ -39,7 +39,7 @@ module _ (log bytes : List ℕ) (l : length log ≡ 40960) (passed : ℕ) where
       put-length (to n) (piece n) ((passed + n) % 512 * 80) (omega arith) ∙ q
 
   -- a broadcast of which the new ones are less than 512 past
-  pub logged-kept : (n p : ℕ) → n * 80 ≤ length bytes → p < passed → passed + n ≤ p + 512 → broadcastBytes (to n) p ≡ broadcastBytes log p
+  pub logged-kept : (n p : ℕ) → n * 80 ≤ length bytes → p < passed → passed + n ≤ p + 512 → loggedBroadcast (to n) p ≡ loggedBroadcast log p
   unfolding logged piece
   logged-kept zero p h b g = refl
   logged-kept (suc n) p h b g =
@@ -49,7 +49,7 @@ module _ (log bytes : List ℕ) (l : length log ≡ 40960) (passed : ℕ) where
       part-other (to n) (piece n) 80 ((passed + n) % 512) (p % 512) 80 (omega arith) (omega arith) (omega arith) (apart p (passed + n) (omega arith) (omega arith))
       ∙ logged-kept n p (omega arith) b (omega arith)
 
-  pub logged-new : (n j : ℕ) → n * 80 ≤ length bytes → j < n → n ≤ 512 → broadcastBytes (to n) (passed + j) ≡ take 80 (drop (j * 80) bytes)
+  pub logged-new : (n j : ℕ) → n * 80 ≤ length bytes → j < n → n ≤ 512 → loggedBroadcast (to n) (passed + j) ≡ take 80 (drop (j * 80) bytes)
   unfolding logged piece
   logged-new zero j h b g = absurd (omega arith)
   logged-new (suc n) j h b g =
@@ -67,7 +67,7 @@ module _ (log bytes : List ℕ) (l : length log ≡ 40960) (passed : ℕ) where
 -- ---- the broadcasts from p on, n of them
 unfoldable pub logFrom : List ℕ → ℕ → ℕ → Line
 logFrom log p zero = []
-logFrom log p (suc n) = broadcastBytes log p ∷ logFrom log (suc p) n
+logFrom log p (suc n) = loggedBroadcast log p ∷ logFrom log (suc p) n
 
 pub from-append : (log : List ℕ) (p q n k : ℕ) → p + n ≡ q → logFrom log p n ++ logFrom log q k ≡ logFrom log p (n + k)
 unfolding logFrom
@@ -77,9 +77,9 @@ from-append log p q zero k e =
     ap (λ (x : ℕ). logFrom log x k) g ∙ ap (logFrom log p) f
 from-append log p q (suc n) k e =
     let f : suc (n + k) ≡ suc n + k = omega arith in
-    ap (λ (x : Line). broadcastBytes log p ∷ x) (from-append log (suc p) q n k (omega arith)) ∙ ap (logFrom log p) f
+    ap (λ (x : Line). loggedBroadcast log p ∷ x) (from-append log (suc p) q n k (omega arith)) ∙ ap (logFrom log p) f
 
-pub from-same : (log new : List ℕ) (p n q : ℕ) → p + n ≤ q → ((j : ℕ) → p ≤ j → j < q → broadcastBytes new j ≡ broadcastBytes log j)
+pub from-same : (log new : List ℕ) (p n q : ℕ) → p + n ≤ q → ((j : ℕ) → p ≤ j → j < q → loggedBroadcast new j ≡ loggedBroadcast log j)
     → logFrom new p n ≡ logFrom log p n
 unfolding logFrom
 from-same log new p zero q h f = refl
@@ -88,18 +88,18 @@ from-same log new p (suc n) q h f =
     let b = from-same log new (suc p) n q (omega arith) (λ j x y. f j (omega arith) y) in
     rw (a, b)
 
-from-pieces : (log bytes : List ℕ) (p n : ℕ) → ((j : ℕ) → j < n → broadcastBytes log (p + j) ≡ take 80 (drop (j * 80) bytes))
+from-pieces : (log bytes : List ℕ) (p n : ℕ) → ((j : ℕ) → j < n → loggedBroadcast log (p + j) ≡ take 80 (drop (j * 80) bytes))
     → logFrom log p n ≡ pieces n bytes
 unfolding logFrom pieces
 from-pieces log bytes p zero f = refl
 from-pieces log bytes p (suc n) f =
     let e : p + 0 ≡ p = omega arith in
-    let a : broadcastBytes log p ≡ take 80 bytes = ap (broadcastBytes log) (sym e) ∙ f 0 (omega arith) in
-    let g : (j : ℕ) → j < n → broadcastBytes log (suc p + j) ≡ take 80 (drop (j * 80) (drop 80 bytes))
+    let a : loggedBroadcast log p ≡ take 80 bytes = ap (loggedBroadcast log) (sym e) ∙ f 0 (omega arith) in
+    let g : (j : ℕ) → j < n → loggedBroadcast log (suc p + j) ≡ take 80 (drop (j * 80) (drop 80 bytes))
     = λ j h.
     let x : suc p + j ≡ p + suc j = omega arith in
     let y : 80 + j * 80 ≡ suc j * 80 = omega arith in
-    ap (broadcastBytes log) x ∙ f (suc j) (omega arith) ∙ ap (λ (z : ℕ). take 80 (drop z bytes)) (sym y) ∙ ap (take 80) (sym (drop-drop (j * 80) 80 bytes)) in
+    ap (loggedBroadcast log) x ∙ f (suc j) (omega arith) ∙ ap (λ (z : ℕ). take 80 (drop z bytes)) (sym y) ∙ ap (take 80) (sym (drop-drop (j * 80) 80 bytes)) in
     rw (a, from-pieces log (drop 80 bytes) (suc p) n g)
 
 -- the new broadcasts

@@ -12,7 +12,7 @@ use Rattle.replica.specs.declared.Replica.{Replica}
 use Rattle.replica.specs.Replica.{zeroReplica}
 use Rattle.progress.specs.HonestRuns.{World, Line, update}
 use Rattle.progress.proofs.Acting.{update-same, update-other}
-use Rattle.trial_core.specs.Trial.{Lent, replyBytes, invokeBytes}
+use Rattle.trial_core.specs.Trial.{Lent, queuedReply, keptInvoke}
 use Rattle.trial_core.specs.declared.Lines.{Lines}
 use Rattle.trial_ways.proofs.Ways.{Way, Quiet}
 
@@ -26,8 +26,8 @@ pub record Client (log : List ℕ) (passed next before len : ℕ) (reply : List 
 -- client i + 1
 abbrev pub ClientAt : Lines → Lent → World → ℕ → Type 0
 ClientAt l b w i =
-    Client (b .log) (w .server .passed) (getD (l .next) i 0) (getD (l .before) i 0) (getD (l .lengths) i 0) (replyBytes l (b .replies) i)
-    (getD (l .refused) i false) (invokeBytes (b .invokes) i) (w .up (i + 1)) (w .down (i + 1))
+    Client (b .log) (w .server .passed) (getD (l .next) i 0) (getD (l .before) i 0) (getD (l .lengths) i 0) (queuedReply l (b .replies) i)
+    (getD (l .refused) i false) (keptInvoke (b .invokes) i) (w .up (i + 1)) (w .down (i + 1))
 
 pub record Sizes (rs : List Replica) (l : Lines) (b : Lent) : Type 0 where
   pub replicas : length rs ≡ 8

@@ -11,7 +11,7 @@ use native.Mathlib.Numerals.{add-one}
 use Rattle.message.specs.Message.{isReply}
 use Rattle.progress.specs.HonestRuns.{Line}
 use Rattle.progress.proofs.OneWay.{replies, reply-counted, other-to}
-use Rattle.trial_core.specs.Trial.{broadcastBytes}
+use Rattle.trial_core.specs.Trial.{loggedBroadcast}
 use Rattle.trial_ways.proofs.Parts.{bool-cases}
 use Rattle.trial_ways.proofs.Ring.{logFrom, from-append, from-same}
 
@@ -23,7 +23,7 @@ pub data Way (log : List ℕ) (passed next before len : ℕ) (reply : List ℕ) 
 
 -- none of the broadcasts from p to q is a reply
 abbrev pub Quiet : List ℕ → ℕ → ℕ → Type 0
-Quiet log p q = (j : ℕ) → p ≤ j → j < q → isReply (broadcastBytes log j) ≡ false
+Quiet log p q = (j : ℕ) → p ≤ j → j < q → isReply (loggedBroadcast log j) ≡ false
 
 -- ---- counts
 replies-append : (x y : Line) → replies (x ++ y) ≡ replies x + replies y
@@ -41,14 +41,14 @@ unfolding replies logFrom
 from-quiet log p zero e j h g = absurd (omega arith)
 from-quiet log p (suc n) e j h g =
     ⊎-elim
-    (λ (t : isReply (broadcastBytes log p) ≡ true). absurd (let z = reply-counted (broadcastBytes log p) (logFrom log (suc p) n) t in omega arith))
-    (λ (f : isReply (broadcastBytes log p) ≡ false).
-    let z = other-to (broadcastBytes log p) (logFrom log (suc p) n) f in
+    (λ (t : isReply (loggedBroadcast log p) ≡ true). absurd (let z = reply-counted (loggedBroadcast log p) (logFrom log (suc p) n) t in omega arith))
+    (λ (f : isReply (loggedBroadcast log p) ≡ false).
+    let z = other-to (loggedBroadcast log p) (logFrom log (suc p) n) f in
     ⊎-elim
-    (λ (q : p ≡ j). ap (λ (x : ℕ). isReply (broadcastBytes log x)) (sym q) ∙ f)
+    (λ (q : p ≡ j). ap (λ (x : ℕ). isReply (loggedBroadcast log x)) (sym q) ∙ f)
     (λ (q : p < j). from-quiet log (suc p) n (omega arith) j q (omega arith))
     (eq-or-lt-of-le h))
-    (bool-cases (isReply (broadcastBytes log p)))
+    (bool-cases (isReply (loggedBroadcast log p)))
 
 -- what stands at the end of a line without replies
 pub end-quiet : (log : List ℕ) (d : Line) (p n : ℕ) → replies (d ++ logFrom log p n) ≡ 0 → Quiet log p (p + n)
@@ -65,7 +65,7 @@ module _ (log : List ℕ) (passed next before len : ℕ) (reply : List ℕ) (d :
   way-small (some a c x y i e f q) = y
 
   -- the log changes elsewhere
-  pub way-log : (new : List ℕ) → ((j : ℕ) → next ≤ j → j < passed → broadcastBytes new j ≡ broadcastBytes log j)
+  pub way-log : (new : List ℕ) → ((j : ℕ) → next ≤ j → j < passed → loggedBroadcast new j ≡ loggedBroadcast log j)
       → Way log passed next before len reply d → Way new passed next before len reply d
   way-log new h (none a z e q) = none a z e (q ∙ sym (from-same log new next a passed (omega arith) h))
   way-log new h (some a c x y i e f q) =
@@ -118,16 +118,16 @@ module _ (log : List ℕ) (passed next before len : ℕ) (reply : List ℕ) (d :
   way-taken m h b (some (suc a) c x y i e f q) = absurd (omega arith)
 
   pub way-confirmed : next < passed → (1 ≤ len → len ≤ 1315 → before ≡ next → ⊥) → Way log passed next before len reply d
-      → (d ≡ broadcastBytes log next ∷ drop 1 d) × Way log passed (next + 1) before len reply (drop 1 d)
+      → (d ≡ loggedBroadcast log next ∷ drop 1 d) × Way log passed (next + 1) before len reply (drop 1 d)
   unfolding logFrom
   way-confirmed h b (none zero z e q) = absurd (omega arith)
   way-confirmed h b (none (suc a) z e q) =
       let r : drop 1 d ≡ logFrom log (suc next) a = ap (drop 1) q in
-      (q ∙ ap (λ (z : Line). broadcastBytes log next ∷ z) (sym r), none a z (omega arith) (r ∙ ap (λ (z : ℕ). logFrom log z a) (sym (add-one next))))
+      (q ∙ ap (λ (z : Line). loggedBroadcast log next ∷ z) (sym r), none a z (omega arith) (r ∙ ap (λ (z : ℕ). logFrom log z a) (sym (add-one next))))
   way-confirmed h b (some zero c x y i e f q) = absurd (b x y (omega arith))
   way-confirmed h b (some (suc a) c x y i e f q) =
       let r : drop 1 d ≡ logFrom log (suc next) a ++ (reply ∷ logFrom log before c) = ap (drop 1) q in (
-        q ∙ ap (λ (z : Line). broadcastBytes log next ∷ z) (sym r),
+        q ∙ ap (λ (z : Line). loggedBroadcast log next ∷ z) (sym r),
         some a c x y i (omega arith) f (r ∙ ap (λ (z : ℕ). logFrom log z a ++ (reply ∷ logFrom log before c)) (sym (add-one next))),
       )
 

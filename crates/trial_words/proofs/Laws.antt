@@ -7,9 +7,9 @@ use lib.Dec.{leb}
 use borrow.Author.Tests.{leb-true}
 use Rattle.slices.specs.Bytes.{same}
 use Rattle.slices.proofs.Laws.{and-yes}
-use Rattle.trial_words.specs.Words.{invoke, deliver, other, value, fromWords}
+use Rattle.trial_words.specs.Words.{invoke, deliver, other, wordNumber, fromWords}
 
-module _ (w v : List ℕ) (b : Bool) (n : ℕ) (p : b ≡ same w (68 ∷ [])) (q : n ≡ value v) where
+module _ (w v : List ℕ) (b : Bool) (n : ℕ) (p : b ≡ same w (68 ∷ [])) (q : n ≡ wordNumber v) where
   pub deliver-yes : (b && leb 1 n && leb n 8) ≡ true → deliver n ≡ fromWords (w ∷ v ∷ [])
   unfolding fromWords
   deliver-yes e = rw (← p, ← q, e)
@@ -21,7 +21,7 @@ module _ (w v : List ℕ) (b : Bool) (n : ℕ) (p : b ≡ same w (68 ∷ [])) (q
 abbrev pub wordsFit : Bool → ℕ → ℕ → ℕ → ℕ → Bool
 wordsFit b v k c a = b && leb 1 v && leb v 8 && leb k 255 && leb c 255 && leb a 255
 
-module _ (w v k c a : List ℕ) (b : Bool) (n₁ n₂ n₃ n₄ : ℕ) (p : b ≡ same w (73 ∷ [])) (q₁ : n₁ ≡ value v) (q₂ : n₂ ≡ value k) (q₃ : n₃ ≡ value c) (q₄ : n₄ ≡ value a) where
+module _ (w v k c a : List ℕ) (b : Bool) (n₁ n₂ n₃ n₄ : ℕ) (p : b ≡ same w (73 ∷ [])) (q₁ : n₁ ≡ wordNumber v) (q₂ : n₂ ≡ wordNumber k) (q₃ : n₃ ≡ wordNumber c) (q₄ : n₄ ≡ wordNumber a) where
   pub invoke-yes : wordsFit b n₁ n₂ n₃ n₄ ≡ true → invoke n₁ n₂ n₃ n₄ ≡ fromWords (w ∷ v ∷ k ∷ c ∷ a ∷ [])
   unfolding fromWords
   invoke-yes e = rw (← p, ← q₁, ← q₂, ← q₃, ← q₄, e)

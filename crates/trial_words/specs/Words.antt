@@ -21,18 +21,18 @@ asked (C.Deliver v) = deliver v
 asked C.Other = other
 
 -- a word's number: 256 for one above 255 and for what is no number
-abbrev pub value : List ℕ → ℕ
-value w = numberOf 256 w
+abbrev pub wordNumber : List ℕ → ℕ
+wordNumber w = numberOf 256 w
 
 -- "A line of another form, or with a van not 1 to 8 or a number above 255"; `I` is byte 73, `D` byte 68
 unfoldable pub fromWords : List (List ℕ) → Asked
 fromWords [] = other
 fromWords (w ∷ []) = other
-fromWords (w ∷ v ∷ []) = cond (same w (68 ∷ []) && leb 1 (value v) && leb (value v) 8) (deliver (value v)) other
+fromWords (w ∷ v ∷ []) = cond (same w (68 ∷ []) && leb 1 (wordNumber v) && leb (wordNumber v) 8) (deliver (wordNumber v)) other
 fromWords (w ∷ v ∷ k ∷ []) = other
 fromWords (w ∷ v ∷ k ∷ c ∷ []) = other
 fromWords (w ∷ v ∷ k ∷ c ∷ a ∷ []) =
-    cond (same w (73 ∷ []) && leb 1 (value v) && leb (value v) 8 && leb (value k) 255 && leb (value c) 255 && leb (value a) 255)
-    (invoke (value v) (value k) (value c) (value a))
+    cond (same w (73 ∷ []) && leb 1 (wordNumber v) && leb (wordNumber v) 8 && leb (wordNumber k) 255 && leb (wordNumber c) 255 && leb (wordNumber a) 255)
+    (invoke (wordNumber v) (wordNumber k) (wordNumber c) (wordNumber a))
     other
 fromWords (w ∷ v ∷ k ∷ c ∷ a ∷ x ∷ ws) = other

@@ -31,14 +31,14 @@ fn spelled(line: &[u8], k: usize, out: &mut [u8]) -> usize
 // The label, and the first bytes of a digest or tag.
 fn show(line: &[u8], bytes: &[u8; 32]) {
     let shown = call_lines::number_at(line, 2, 32) as usize;
-    call_lines::put(call_lines::word_at(line, 1));
+    call_lines::print(call_lines::nth_word(line, 1));
     let all = &bytes[..];
-    call_lines::put_bytes(&all[0..shown]);
+    call_lines::print_hex(&all[0..shown]);
 }
 
 fn show_refused(line: &[u8]) {
-    call_lines::put(call_lines::word_at(line, 1));
-    call_lines::put_one(b" refused", 9);
+    call_lines::print(call_lines::nth_word(line, 1));
+    call_lines::print_one(b" refused", 9);
 }
 
 fn digest_case(line: &[u8]) {
@@ -64,7 +64,7 @@ fn tag_case(line: &[u8]) {
 }
 
 fn one(line: &[u8]) {
-    if call_lines::letter(line) == b'd' {
+    if call_lines::first_letter(line) == b'd' {
         digest_case(line);
     } else {
         tag_case(line);

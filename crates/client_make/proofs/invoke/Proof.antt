@@ -40,8 +40,8 @@ returns c =
 add-count : tie.Need-add-count
 add-count c = record { fits = omega (arith, yes (c .before) .below) }
 
-write-message-requires : tie.Need-write-message-requires
-write-message-requires c κs =
+write-own-invoke-requires : tie.Need-write-own-invoke-requires
+write-own-invoke-requires c κs =
     let y = yes (c .before .before) in
     let g = ranged _ (y .range) in
     (g .low, g .high, y .enough)
@@ -58,7 +58,7 @@ returns-2 c =
     let a = k .before .before .before .args in
     let l = invoke-goes (a .r) (a .kind) (a .cell) (a .amount) (a .out .now) (passed k) in (
       ap (λ (b : Replica). record { replica = b; says = invoked (a .r .count + 1) }) (c .invoked-replica .ensures) ∙ l .0,
-      c .before .before .before .write-message .ensures ∙ l .1,
+      c .before .before .before .write-own-invoke .ensures ∙ l .1,
     )
 
 pub invoke-spec : {M : Type 1} → statement M
@@ -69,7 +69,7 @@ invoke-spec =
     stopped-requires
     returns
     add-count
-    write-message-requires
+    write-own-invoke-requires
     invoked-replica-requires
     same-length
     returns-2)

@@ -3,12 +3,12 @@ use native.Mathlib.Omega.{arith}
 use borrow.Author.Needs.{needs}
 use borrow.Author.Tests.{ne-eqb}
 use Rattle.checks.specs.Checks.{firstNo}
-use Rattle.client_reply_check.specs.ReplyChecks.{formChecks}
+use Rattle.client_reply_check.specs.ReplyChecks.{replyFormChecks}
 use Rattle.client_reply_check.proofs.Laws.{Formed, form-yes, form-stops, rest-decides}
 use Rattle.client_reply_items.proofs.reply_check.Statement.{statement}
 use Rattle.client_reply_items.proofs.reply_check.Tie as tie
 
-formed : (c : tie.Else1) → let a = c .before .before .before .args in firstNo 0 (formChecks (a .r) (a .m .now) (a .room)) ≡ 0
+formed : (c : tie.Else1) → let a = c .before .before .before .args in firstNo 0 (replyFormChecks (a .r) (a .m .now) (a .room)) ≡ 0
 formed c = sym (c .before .form-check .ensures) ∙ c .if1 .left
 
 yes : (c : tie.Else1) → let a = c .before .before .before .args in Formed (a .r) (a .m .now) (a .room)

@@ -52,8 +52,8 @@ cast-chain-to c = omega (arith, c .before .before .shared-slice-known2 .given 2)
 chain-to-requires : tie.Need-chain-to-requires
 chain-to-requires c κs = let y = yes (c .before .before .before) in (y .few, y .early, omega (arith, y .long))
 
-write-message-requires : tie.Need-write-message-requires
-write-message-requires c κs =
+write-own-commit-requires : tie.Need-write-own-commit-requires
+write-own-commit-requires c κs =
     let k = c .before .before .before .before .before .before in
     let y = yes k in
     (y .few, y .early, k .before .reply-check .ensures .1 (k .if1 .left), y .enough)
@@ -91,7 +91,7 @@ returns-2 c =
     let h : length t ≡ 1056 = search (needs, o) in
     let w = commit-message-length (a .r) t n (c .before .before .before .before .before .before .before .before .before .decide .result .aborted) (value-length (a .r .confirmed) n t h f) in
     let l = reply-goes (a .r) (a .m .now) (a .out .now) (passed k) t _ _ (chained c) (v .0) (v .1) w in
-    (rw (c .before .before .replied-replica .ensures, c .says .ensures) (l .0), c .before .before .before .before .before .write-message .ensures ∙ l .1)
+    (rw (c .before .before .replied-replica .ensures, c .says .ensures) (l .0), c .before .before .before .before .before .write-own-commit .ensures ∙ l .1)
 
 pub reply-spec : {M : Type 1} → statement M
 reply-spec =
@@ -105,7 +105,7 @@ reply-spec =
     decide-requires
     cast-chain-to
     chain-to-requires
-    write-message-requires
+    write-own-commit-requires
     replied-replica-requires
     cast-says
     add-says

@@ -5,8 +5,8 @@ use Rattle.cop_said.proofs.client_said.Tie as tie
 enum-known-o : tie.Need-enum-known-o
 enum-known-o c = search needs
 
-done-said-requires : tie.Need-done-said-requires
-done-said-requires c κs = search needs
+event-said-requires : tie.Need-event-said-requires
+event-said-requires c κs = search needs
 
 enum-known-o-2 : tie.Need-enum-known-o-2
 enum-known-o-2 c = search needs
@@ -40,7 +40,7 @@ client-said-spec =
     tie.close
     (tie.spec
     enum-known-o
-    done-said-requires
+    event-said-requires
     enum-known-o-2
     refusal-number-requires
     refusal-said-requires

@@ -5,8 +5,8 @@ use Rattle.cop_said.proofs.server_said.Tie as tie
 enum-known-o : tie.Need-enum-known-o
 enum-known-o c = search needs
 
-server-done-said-requires : tie.Need-server-done-said-requires
-server-done-said-requires c κs = search needs
+server-event-said-requires : tie.Need-server-event-said-requires
+server-event-said-requires c κs = search needs
 
 enum-known-o-2 : tie.Need-enum-known-o-2
 enum-known-o-2 c = search needs
@@ -28,7 +28,7 @@ server-said-spec =
     tie.close
     (tie.spec
     enum-known-o
-    server-done-said-requires
+    server-event-said-requires
     enum-known-o-2
     refusal-number-requires
     refusal-said-requires

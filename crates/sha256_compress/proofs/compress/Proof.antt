@@ -6,8 +6,8 @@ use Rattle.sha256_compress.proofs.compress.Tie as tie
 expand-requires : tie.Need-expand-requires
 expand-requires c κs = search needs
 
-run-requires : tie.Need-run-requires
-run-requires c κs = search needs
+all-rounds-requires : tie.Need-all-rounds-requires
+all-rounds-requires c κs = search needs
 
 sum-requires : tie.Need-sum-requires
 sum-requires c κs = search needs
@@ -17,4 +17,4 @@ unfolding compressOf
 returns c = cc
 
 pub compress-spec : {M : Type 1} → statement M
-compress-spec = tie.close (tie.spec expand-requires run-requires sum-requires returns)
+compress-spec = tie.close (tie.spec expand-requires all-rounds-requires sum-requires returns)

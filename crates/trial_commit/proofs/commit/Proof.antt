@@ -9,8 +9,8 @@ use Rattle.trial_commit.proofs.commit.Tie as tie
 sizes : (c : tie.Start) → Sizes (c .args .s)
 sizes c = record { counts = search needs; items = search needs; statuses = search needs; digests = search needs; tags = search needs }
 
-room-requires : tie.Need-room-requires
-room-requires c κs = search needs
+broadcast-buffer-requires : tie.Need-broadcast-buffer-requires
+broadcast-buffer-requires c κs = search needs
 
 add-receive : tie.Need-add-receive
 add-receive c = search needs
@@ -38,8 +38,8 @@ append-requires c κs =
     let a = c .before .before .before .before .before .before .before .before .before .before .args in
     let q = c .before .before .before .before .before .receive in
     let sz = sizes (c .before .before .before .before .before .before .before .before .before .before) in
-    let z = c .before .before .before .before .before .before .before .room .ensures in
-    (commit-fits (a .s) (a .i + 1) (a .m .now) (c .before .before .before .before .before .before .before .room .result) (a .log .now) sz z (q .last .1 .1 .1 .0) (q .ensures .2) (q .ensures .1) (c .before .before .broadcast-count .ensures), c .before .before .before .before .before .before .before .before .before .before .pre .1)
+    let z = c .before .before .before .before .before .before .before .broadcast-buffer .ensures in
+    (commit-fits (a .s) (a .i + 1) (a .m .now) (c .before .before .before .before .before .before .before .broadcast-buffer .result) (a .log .now) sz z (q .last .1 .1 .1 .0) (q .ensures .2) (q .ensures .1) (c .before .before .broadcast-count .ensures), c .before .before .before .before .before .before .before .before .before .before .pre .1)
 
 same-length : tie.Need-same-length
 same-length c = search needs
@@ -49,16 +49,16 @@ returns c =
     let a = c .before .before .before .before .before .before .before .before .before .before .before .before .before .args in
     let q = c .before .before .before .before .before .before .before .before .receive in
     let sz = sizes (c .before .before .before .before .before .before .before .before .before .before .before .before .before) in
-    let z = c .before .before .before .before .before .before .before .before .before .before .room .ensures in (
-      q .ensures .0 ∙ commit-server (a .s) (a .i + 1) (a .m .now) (c .before .before .before .before .before .before .before .before .before .before .room .result) (a .log .now) sz z (q .last .1 .1 .1 .0),
-      commit-logged (a .s) (a .i + 1) (a .m .now) (c .before .before .before .before .before .before .before .before .before .before .room .result) (a .log .now) sz z (q .last .1 .1 .1 .0) (q .ensures .2) (q .ensures .1) (c .before .before .before .before .before .broadcast-count .ensures) (c .before .before .append .ensures),
+    let z = c .before .before .before .before .before .before .before .before .before .before .broadcast-buffer .ensures in (
+      q .ensures .0 ∙ commit-server (a .s) (a .i + 1) (a .m .now) (c .before .before .before .before .before .before .before .before .before .before .broadcast-buffer .result) (a .log .now) sz z (q .last .1 .1 .1 .0),
+      commit-logged (a .s) (a .i + 1) (a .m .now) (c .before .before .before .before .before .before .before .before .before .before .broadcast-buffer .result) (a .log .now) sz z (q .last .1 .1 .1 .0) (q .ensures .2) (q .ensures .1) (c .before .before .before .before .before .broadcast-count .ensures) (c .before .before .append .ensures),
     )
 
 pub commit-spec : {M : Type 1} → statement M
 commit-spec =
     tie.close
     (tie.spec
-    room-requires
+    broadcast-buffer-requires
     add-receive
     cast-receive
     slice-aggregate-receive

@@ -1,4 +1,4 @@
-use Rattle.trial_outcome.proofs.Laws.{done-success}
+use Rattle.trial_outcome.proofs.Laws.{event-success}
 use borrow.Author.Needs.{needs}
 use Rattle.trial_outcome.proofs.is_success.Statement.{statement}
 use Rattle.trial_outcome.proofs.is_success.Tie as tie
@@ -13,7 +13,7 @@ enum-told-3 : tie.Need-enum-told-3
 enum-told-3 c = search needs
 
 returns : tie.Need-returns
-returns c = rw (c .enum-told .given .1) (done-success (c .enum-told .given .0 .0))
+returns c = rw (c .enum-told .given .1) (event-success (c .enum-told .given .0 .0))
 
 returns-2 : tie.Need-returns-2
 returns-2 c = search needs

@@ -5,8 +5,8 @@ use Rattle.trial_outcome.proofs.served_said.Tie as tie
 enum-known-outcome : tie.Need-enum-known-outcome
 enum-known-outcome c = search needs
 
-served-done-requires : tie.Need-served-done-requires
-served-done-requires c κs = search needs
+served-event-said-requires : tie.Need-served-event-said-requires
+served-event-said-requires c κs = search needs
 
 enum-known-outcome-2 : tie.Need-enum-known-outcome-2
 enum-known-outcome-2 c = search needs
@@ -25,7 +25,7 @@ served-said-spec =
     tie.close
     (tie.spec
     enum-known-outcome
-    served-done-requires
+    served-event-said-requires
     enum-known-outcome-2
     refusal-number-requires
     returns

@@ -5,8 +5,8 @@ use Rattle.trial_outcome.proofs.told_said.Tie as tie
 enum-known-outcome : tie.Need-enum-known-outcome
 enum-known-outcome c = search needs
 
-done-said-requires : tie.Need-done-said-requires
-done-said-requires c κs = search needs
+event-said-requires : tie.Need-event-said-requires
+event-said-requires c κs = search needs
 
 enum-known-outcome-2 : tie.Need-enum-known-outcome-2
 enum-known-outcome-2 c = search needs
@@ -34,7 +34,7 @@ told-said-spec =
     tie.close
     (tie.spec
     enum-known-outcome
-    done-said-requires
+    event-said-requires
     enum-known-outcome-2
     refusal-number-requires
     enum-known-outcome-3

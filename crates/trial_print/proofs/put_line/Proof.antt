@@ -4,7 +4,7 @@ use mathlib.Core.List.{[], _∷_}
 use native.Mathlib.Omega.{arith}
 use lib.ListN.{length}
 use Rattle.text.specs.Text.{decimalOf}
-use Rattle.trial_said.specs.Word.{word, datum, wordBytes}
+use Rattle.trial_said.specs.Word.{wordOf, datum, wordBytes}
 use Rattle.trial_print.specs.Line.{lineBytes}
 use Rattle.trial_said.proofs.Laws.{Wrote, then}
 use Rattle.trial_print.proofs.Laws.{digits-64}
@@ -84,7 +84,7 @@ returns c =
     let w1 : Wrote (a .out .now) (a .at) (decimalOf (a .number)) (c1 .last .0) (c1 .result) = record { place = c1 .ensures .0; bytes = c1 .ensures .1 } in
     let w2 : Wrote (c1 .last .0) (c1 .result) (datum (a .van)) (c2 .last .0) (c2 .result) = record { place = c2 .ensures .0; bytes = c2 .ensures .1 } in
     let w3 : Wrote (c2 .last .0) (c2 .result) (32 ∷ []) (c3 .last .0) (c3 .result) = record { place = c3 .ensures .0; bytes = c3 .ensures .1 } in
-    let w4 : Wrote (c3 .last .0) (c3 .result) (wordBytes (word (a .said))) (c4 .last .0) (c4 .result) = record { place = c4 .ensures .0; bytes = c4 .ensures .1 } in
+    let w4 : Wrote (c3 .last .0) (c3 .result) (wordBytes (wordOf (a .said))) (c4 .last .0) (c4 .result) = record { place = c4 .ensures .0; bytes = c4 .ensures .1 } in
     let w5 : Wrote (c4 .last .0) (c4 .result) (10 ∷ []) (c5 .last .0) (c5 .result) = record { place = c5 .ensures .0; bytes = c5 .ensures .1 } in
     let h : a .at ≤ length (a .out .now) = omega (arith, pre) in
     let z = then h (then h (then h (then h w1 w2) w3) w4) w5 in

@@ -1,6 +1,6 @@
 use borrow.Author.Needs.{needs}
-use Rattle.cop_said.proofs.server_done_said.Statement.{statement}
-use Rattle.cop_said.proofs.server_done_said.Tie as tie
+use Rattle.cop_said.proofs.server_event_said.Statement.{statement}
+use Rattle.cop_said.proofs.server_event_said.Tie as tie
 
 enum-known-d : tie.Need-enum-known-d
 enum-known-d c = search needs
@@ -20,8 +20,8 @@ returns c = rw (c .success-said .ensures, c .before .before .d .given .1)
 returns-2 : tie.Need-returns-2
 returns-2 c = rw (c .success-said2 .ensures, c .before .before .d2 .given .1)
 
-pub server-done-said-spec : {M : Type 1} → statement M
-server-done-said-spec =
+pub server-event-said-spec : {M : Type 1} → statement M
+server-event-said-spec =
     tie.close
     (tie.spec
     enum-known-d

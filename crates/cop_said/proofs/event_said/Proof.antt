@@ -1,6 +1,6 @@
 use borrow.Author.Needs.{needs}
-use Rattle.cop_said.proofs.done_said.Statement.{statement}
-use Rattle.cop_said.proofs.done_said.Tie as tie
+use Rattle.cop_said.proofs.event_said.Statement.{statement}
+use Rattle.cop_said.proofs.event_said.Tie as tie
 
 enum-told : tie.Need-enum-told
 enum-told c = search needs
@@ -53,8 +53,8 @@ returns-4 c = rw (c .success-said4 .ensures, c .before .before .d3 .given .1)
 returns-5 : tie.Need-returns-5
 returns-5 c = rw (c .success-said5 .ensures, c .before .before .d4 .given .1)
 
-pub done-said-spec : {M : Type 1} → statement M
-done-said-spec =
+pub event-said-spec : {M : Type 1} → statement M
+event-said-spec =
     tie.close
     (tie.spec
     enum-told

@@ -2,8 +2,8 @@ use Prim.Native.Nat.{_≤_, _-_}
 use mathlib.Core.Path.{_≡_}
 use lib.ListN.{length}
 use borrow.Author.Needs.{needs}
-use Rattle.server_run.proofs.copy_counts.Statement.{statement}
-use Rattle.server_run.proofs.copy_counts.Tie as tie
+use Rattle.server_run.proofs.store_counts.Statement.{statement}
+use Rattle.server_run.proofs.store_counts.Tie as tie
 
 abbrev Inv-loop : tie.InvT-loop
 Inv-loop image₀ counts i₀ image i = (i ≤ 8) × (length image ≡ length image₀)
@@ -44,8 +44,8 @@ same-length c = search needs
 returns : tie.Need-returns Inv-loop μ-loop
 returns c = search needs
 
-pub copy-counts-spec : {M : Type 1} → statement M
-copy-counts-spec =
+pub store-counts-spec : {M : Type 1} → statement M
+store-counts-spec =
     tie.close
     (tie.spec
     Inv-loop

@@ -1,8 +1,8 @@
 use borrow.Author.Needs.{needs}
 use Rattle.message.specs.Message.{itemAt}
 use Rattle.server.specs.Server.{itemOk}
-use Rattle.server_slots.proofs.item_ok.Statement.{statement}
-use Rattle.server_slots.proofs.item_ok.Tie as tie
+use Rattle.server_slots.proofs.item_ok_at.Statement.{statement}
+use Rattle.server_slots.proofs.item_ok_at.Tie as tie
 
 read-op-requires : tie.Need-read-op-requires
 read-op-requires c κs = search needs
@@ -20,5 +20,5 @@ returns : tie.Need-returns
 unfolding itemOk itemAt
 returns c = rw (c .op-ok .ensures, c .before .before .read-op .ensures)
 
-pub item-ok-spec : {M : Type 1} → statement M
-item-ok-spec = tie.close (tie.spec read-op-requires add-author shared-slice-read-author op-ok-requires returns)
+pub item-ok-at-spec : {M : Type 1} → statement M
+item-ok-at-spec = tie.close (tie.spec read-op-requires add-author shared-slice-read-author op-ok-requires returns)

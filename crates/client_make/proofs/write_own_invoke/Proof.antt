@@ -1,7 +1,7 @@
 use Rattle.client_invoke.specs.Invoke.{invokeMessage}
 use borrow.Author.Needs.{needs}
-use Rattle.client_make.proofs.write_message.Statement.{statement}
-use Rattle.client_make.proofs.write_message.Tie as tie
+use Rattle.client_make.proofs.write_own_invoke.Statement.{statement}
+use Rattle.client_make.proofs.write_own_invoke.Tie as tie
 
 invoke-tag-requires : tie.Need-invoke-tag-requires
 invoke-tag-requires c κs = search needs
@@ -16,6 +16,6 @@ returns : tie.Need-returns
 unfolding invokeMessage
 returns c = rw (c .before .before .write-invoke .ensures, c .before .before .before .before .invoke-tag .ensures)
 
-pub write-message-spec : {M : Type 1} → statement M
-write-message-spec =
+pub write-own-invoke-spec : {M : Type 1} → statement M
+write-own-invoke-spec =
     tie.close (tie.spec invoke-tag-requires write-invoke-requires same-length returns)

@@ -1,8 +1,8 @@
 use borrow.Author.Needs.{needs}
 use Prim.Native.Nat.{_≤_, _-_}
 use lib.ListN.{length}
-use Rattle.call_lines.proofs.start.Statement.{statement}
-use Rattle.call_lines.proofs.start.Tie as tie
+use Rattle.call_lines.proofs.word_start.Statement.{statement}
+use Rattle.call_lines.proofs.word_start.Tie as tie
 
 abbrev Inv-loop : tie.InvT-loop
 Inv-loop line k at₀ i₀ at i = at ≤ length line
@@ -34,8 +34,8 @@ loop-again c = search needs
 returns-2 : tie.Need-returns-2 Inv-loop μ-loop
 returns-2 c = search needs
 
-pub start-spec : {M : Type 1} → statement M
-start-spec =
+pub word-start-spec : {M : Type 1} → statement M
+word-start-spec =
     tie.close
     (tie.spec
     Inv-loop

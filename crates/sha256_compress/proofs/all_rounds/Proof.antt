@@ -4,8 +4,8 @@ use Prim.Native.Nat.{_+_, _*_, _≤_, _-_}
 use native.Mathlib.Omega.{arith}
 use Rattle.sha256_block.specs.Block.{rounds}
 use Rattle.sha256_compress.proofs.Rounds.{more}
-use Rattle.sha256_compress.proofs.run.Statement.{statement}
-use Rattle.sha256_compress.proofs.run.Tie as tie
+use Rattle.sha256_compress.proofs.all_rounds.Statement.{statement}
+use Rattle.sha256_compress.proofs.all_rounds.Tie as tie
 
 abbrev Inv-loop : tie.InvT-loop
 Inv-loop w k n₀ q₀ n q = (n ≤ 8) × (q ≡ rounds (8 * n) w q₀)
@@ -42,8 +42,8 @@ loop-again c =
 returns : tie.Need-returns Inv-loop μ-loop
 returns c = let e : c .before .loop .n ≡ 8 = omega arith in cc
 
-pub run-spec : {M : Type 1} → statement M
-run-spec =
+pub all-rounds-spec : {M : Type 1} → statement M
+all-rounds-spec =
     tie.close
     (tie.spec
     Inv-loop
