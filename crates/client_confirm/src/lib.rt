@@ -13,9 +13,6 @@ use replica::Outcome;
 use replica::Replica;
 use replica::Stepped;
 
-// Where the value at the next place ends in a chain: after two values.
-const NEXT_END: usize = 64;
-
 // The chain with its first value gone and the next one in its place.
 fn chain_shift(
     chain: [u8; replica::CHAIN_LENGTH],
@@ -23,13 +20,9 @@ fn chain_shift(
 ) -> [u8; replica::CHAIN_LENGTH]
     ensures { λ r. ⌜ r ≡ next ++ drop (2 * digestLength) chain ++ replicate digestLength 0 ⌝ }
 {
-    let mut t = [0u8; replica::CHAIN_LENGTH];
+    let mut t = chain;
+    shifts::shift(&mut t, message::DIGEST_LENGTH);
     slices::copy_to(&mut t, 0, &next);
-    slices::copy_to(
-        &mut t,
-        message::DIGEST_LENGTH,
-        &chain[NEXT_END..replica::CHAIN_LENGTH],
-    );
     t
 }
 
@@ -37,8 +30,8 @@ fn chain_shift(
 fn status_shift(s: [u8; operation::MAX_PENDING]) -> [u8; operation::MAX_PENDING]
     ensures { λ r. ⌜ r ≡ drop 1 s ++ (0 ∷ []) ⌝ }
 {
-    let mut t = [0u8; operation::MAX_PENDING];
-    slices::copy_to(&mut t, 0, &s[1..operation::MAX_PENDING]);
+    let mut t = s;
+    shifts::shift(&mut t, 1);
     t
 }
 

@@ -129,10 +129,6 @@ module _ (r : Replica) (m : List ℕ) (e : broadcastNo r m ≡ 0) where
       }
 
 -- ---- the call
-pub broadcast-stopped : (r : Replica) (m : List ℕ) → (broadcastNo r m ≡ 0 → ⊥) → broadcastStep r m ≡ stop r (broadcastNo r m)
-unfolding broadcastStep
-broadcast-stopped r m h = rw (ne-eqb _ _ h)
-
 -- it keeps both, whatever it is given
 pub broadcast-sound : (r : Replica) (m : List ℕ) → Sound r → Sound (broadcastStep r m .replica)
 unfolding broadcastStep

@@ -98,11 +98,6 @@ module _ (r : Replica) (kind cell amount room : ℕ) where
   unfolding invokeStep
   invoke-done e = rw e
 
-  pub invoke-stopped : (invokeNo r kind cell amount room ≡ 0 → ⊥)
-      → invokeStep r kind cell amount room ≡ stopStep r (invokeNo r kind cell amount room)
-  unfolding invokeStep
-  invoke-stopped h = rw (ne-eqb _ _ h)
-
 -- it keeps both, whatever it is given
 pub invoke-sound : (r : Replica) (kind cell amount room : ℕ) → Sound r → Sound (invokeStep r kind cell amount room .after .replica)
 unfolding invokeStep

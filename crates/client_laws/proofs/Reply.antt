@@ -149,10 +149,6 @@ module _ (r : Replica) (m : List ℕ) (room : ℕ) where
   unfolding replyStep
   reply-done e = rw e
 
-  pub reply-stopped : (replyNo r m room ≡ 0 → ⊥) → replyStep r m room ≡ stopStep r (replyNo r m room)
-  unfolding replyStep
-  reply-stopped h = rw (ne-eqb _ _ h)
-
 -- it keeps both, whatever it is given
 pub reply-sound : (r : Replica) (m : List ℕ) (room : ℕ) → Sound r → Sound (replyStep r m room .after .replica)
 unfolding replyStep replySuccess

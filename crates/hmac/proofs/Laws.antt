@@ -33,10 +33,6 @@ pub hmac-length : (key m : List ℕ) → length (hmac key m) ≡ 32
 unfolding hmac
 hmac-length key m = sha256-length _
 
-pub hmac-bytes : (key m : List ℕ) → all isByte (hmac key m) ≡ true
-unfolding hmac
-hmac-bytes key m = sha256-bytes _
-
 -- a key's block is a block
 short : (key : List ℕ) (b : Bool) → leb (length key) 64 ≡ b → length (cond b key (sha256 key)) ≤ 64
 short key true e = leb-true _ _ e

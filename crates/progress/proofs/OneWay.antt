@@ -143,9 +143,6 @@ module _ (keys : List ℕ) (l : length keys ≡ 256) (n : ℕ) (low : 1 ≤ n) (
       lines-passed (ghost keys actions) (w .server) n (w .server .passed) (w .replica n .current) (w .replica n .confirmed) (w .up n) (w .down n)
       (client keys l n low high actions .lines)
 
-  pub to-80 : (m : List ℕ) → List·Memᴰ m (w .down n) → isReply m ≡ false → length m ≡ 80
-  to-80 m i e = M.broadcast-length m (to-broadcast m i e)
-
 -- how long a reply and an invoke are, wherever they stand
 pub reply-1315 : (m : List ℕ) → isReply m ≡ true → length m ≤ 1315
 reply-1315 m e = let x = M.reply-length m e in let y = M.reply-count m e in omega arith

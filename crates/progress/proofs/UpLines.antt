@@ -32,25 +32,10 @@ module _ (keys : List ℕ) (l : length keys ≡ 256) (n : ℕ) (low : 1 ≤ n) (
     head : Client g (w .server) n (w .server .passed) (w .replica n) (m ∷ u) (w .down n)
     head = subst (λ (x : Line). Client g (w .server) n (w .server .passed) (w .replica n) x (w .down n)) q (client keys l n low high actions)
 
-    -- an invoke at the head is alone
-    pub invoke-alone : isInvoke m ≡ true → u ≡ []
-    invoke-alone e =
-        asked-head g (w .server) n (w .server .passed) (w .replica n .current) (w .replica n .confirmed) m u (w .down n) e (head .lines) .1 .0
-
-    -- any other message at the head is a commit, of 80 bytes, and what follows it is at most one invoke
-    pub commit-first : isInvoke m ≡ false → isCommit m ≡ true
-    commit-first e =
-        sent-head g (w .server) n (w .server .passed) (w .replica n .current) (w .replica n .confirmed) m u (w .down n) e (head .lines) .0 .form
-
-    pub commit-80 : isInvoke m ≡ false → length m ≡ 80
-    commit-80 e = commit-length m (commit-first e)
-
+    -- what follows another message at the head is at most one invoke
     after : isInvoke m ≡ false → Asks g n (w .replica n .current) u
     after e =
         sent-head g (w .server) n (w .server .passed) (w .replica n .current) (w .replica n .confirmed) m u (w .down n) e (head .lines) .1 .0
-
-    pub after-commit : isInvoke m ≡ false → length u ≤ 1
-    after-commit e = asks-short g n (w .replica n .current) u (after e)
 
     pub invoke-after : isInvoke m ≡ false → (x : List ℕ) (v : Line) → u ≡ x ∷ v → (isInvoke x ≡ true) × (v ≡ [])
     invoke-after e x v z = asks-last g n (w .replica n .current) x v (subst (Asks g n (w .replica n .current)) z (after e))

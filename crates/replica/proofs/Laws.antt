@@ -114,9 +114,6 @@ module _ (r : Replica) (n : ℕ) where
   pub stop-low : n < 20 → stop r n ≡ refuse r n
   stop-low h = rw (lt-leb _ _ h)
 
-  pub stop-high : 25 < n → stop r n ≡ refuse r n
-  stop-high h = rw (lt-leb _ _ h, and-false (leb 20 n))
-
   -- nothing changes but the halt mark, which a halt makes the number
   pub stop-cases : (P : Replica → Type 0) → P r → (20 ≤ n → n ≤ 25 → P (haltedAt r n)) → P (stop r n .replica)
   stop-cases P a b =

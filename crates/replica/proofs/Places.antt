@@ -85,13 +85,6 @@ module _ (c : ℕ) (v chain : List ℕ) (l : length v ≡ 32) (s : length chain 
       ∙ ap (take 32) (drop-drop x 64 chain)
       ∙ ap (λ (y : ℕ). take 32 (drop y chain)) (sym q)
 
-  pub confirm-last : valueAt (c + 1) 32 (confirmValue c v chain) ≡ replicate 32 0
-  unfolding digestAt
-  confirm-last =
-      let d = drop 64 chain in
-      let n : length d ≡ 992 = simp length-drop (omega arith) in
-      ap (take 32) (past-first 992 ∙ drop-at d (replicate 32 0) 992 n)
-
   pub confirm-unused : (held : ℕ) → unusedValues c held chain ≡ true → unusedValues (c + 1) (held - 1) (confirmValue c v chain) ≡ true
   confirm-unused held h =
       let x = (held - 1) * 32 in

@@ -28,11 +28,6 @@ word-back x h =
     (joined x (x / 256) (x / 256 / 256) (x / 256 / 256 / 256) (x % 256) (x / 256 % 256) (x / 256 / 256 % 256)
     (div-add-mod' x 256) (div-add-mod' (x / 256) 256) (div-add-mod' (x / 256 / 256) 256))
 
--- a number's four bytes, followed by anything
-pub word-read : (x : ℕ) (ys : List ℕ) → x < 2 ^ 32 → wordAt (bigEndian 4 x ++ ys) 0 ≡ x
-unfolding wordAt bigEndian
-word-read x ys h = word-back x h
-
 pub word-bytes : (a b c d : ℕ) → a < 256 → b < 256 → c < 256 → d < 256 → bigEndian 4 (word a b c d) ≡ a ∷ b ∷ c ∷ d ∷ []
 unfolding bigEndian
 word-bytes a b c d ha hb hc hd =

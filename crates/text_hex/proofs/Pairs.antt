@@ -141,12 +141,6 @@ abbrev pub Answer : List ℕ → List ℕ → List ℕ → ℕ → Type 0
 Answer z s out n = (n ≡ min (length (unhexOf s)) (length z)) × (out ≡ paste z 0 (unhexOf s) n)
 
 module _ {z s : List ℕ} {i : ℕ} {out : List ℕ} (w : Took z s i out) where
-  pub took-length : length out ≡ length z
-  took-length =
-      let h = w .within in
-      let r = w .room in
-      ap length (w .same) ∙ length-paste z 0 (unhexOf s) i (omega arith) (omega arith)
-
   took-stop : unhexOf (drop (2 * i) s) ≡ [] → Answer z s out i
   took-stop e =
       let h = w .within in

@@ -1,14 +1,29 @@
-use Rattle.slices.specs.Bytes.{put}
-use lib.ListN.{length, take, drop, replicate, length-drop}
-use lib.Seq.{take-all}
-use mathlib.Core.List.{List}
+use Prim.Native.Nat.{ℕ, _+_, _≤_}
+use mathlib.Core.Path.{_≡_, refl, sym, ap, _∙_}
+use mathlib.Core.List.{List, _++_, append-assoc}
 use native.Mathlib.Omega.{arith}
-use Prim.Native.Nat.{ℕ}
-use Rattle.message.proofs.Laws.{two-parts}
-use mathlib.Core.Path.{_≡_, ap, _∙_}
 use borrow.Author.Needs.{needs}
+use lib.ListN.{length, drop, replicate, length-drop}
+use lib.Seq.{drop-append-le, drop-drop}
+use Rattle.slices.specs.Bytes.{put}
 use Rattle.client_confirm.proofs.chain_shift.Statement.{statement}
 use Rattle.client_confirm.proofs.chain_shift.Tie as tie
+
+-- the next value over the first of a chain that has moved along
+over-first : (chain next : List ℕ) → length chain ≡ 1056 → length next ≡ 32
+    → put (drop 32 chain ++ replicate 32 0) 0 next ≡ next ++ drop 64 chain ++ replicate 32 0
+over-first chain next h n =
+    let l : 32 ≤ length (drop 32 chain) = omega (arith, length-drop 32 chain) in
+    let e : 0 + length next ≡ 32 = omega arith in
+    ap (λ (k : ℕ). next ++ drop k (drop 32 chain ++ replicate 32 0)) e
+    ∙ ap (λ (y : List ℕ). next ++ y) (drop-append-le 32 (drop 32 chain) (replicate 32 0) l ∙ ap (λ (y : List ℕ). y ++ replicate 32 0) (drop-drop 32 32 chain))
+    ∙ sym (append-assoc next (drop 64 chain) (replicate 32 0))
+
+slice-aggregate-shift : tie.Need-slice-aggregate-shift
+slice-aggregate-shift c = search needs
+
+shift-requires : tie.Need-shift-requires
+shift-requires c κs = search needs
 
 slice-aggregate-copy-to : tie.Need-slice-aggregate-copy-to
 slice-aggregate-copy-to c = search needs
@@ -19,42 +34,16 @@ slice-aggregate-copy-to-2 c = search needs
 copy-to-requires : tie.Need-copy-to-requires
 copy-to-requires c κs = search needs
 
-slice-aggregate-copy-to-3 : tie.Need-slice-aggregate-copy-to-3
-slice-aggregate-copy-to-3 c = search needs
-
-sub-copy-to : tie.Need-sub-copy-to
-sub-copy-to c = search needs
-
-part-copy-to-start : tie.Need-part-copy-to-start
-part-copy-to-start c = search needs
-
-part-copy-to-end : tie.Need-part-copy-to-end
-part-copy-to-end c = search needs
-
-copy-to-requires-2 : tie.Need-copy-to-requires-2
-copy-to-requires-2 c κs = search needs
-
 returns : tie.Need-returns
 returns c =
-    let a = c .before .before .before .before .before .before .before .before .before .args in
-    let h : length (a .t1) ≡ 1056 = search needs in
+    let a = c .before .before .before .before .before .before .before .args in
+    let h : length (a .chain) ≡ 1056 = search needs in
     let n : length (a .t2) ≡ 32 = search needs in
-    let e : take 992 (drop 64 (a .t1)) ≡ drop 64 (a .t1) = take-all 992 (drop 64 (a .t1)) (simp length-drop (omega arith)) in
-    let l : length (drop 64 (a .t1)) ≡ 992 = length-drop 64 (a .t1) ∙ rw h in
-    c .before .copy-to2 .ensures
-    ∙ ap (λ (z : List ℕ). put z 32 (take 992 (drop 64 (a .t1)))) (c .before .before .before .before .before .before .copy-to .ensures)
-    ∙ rw e (two-parts (replicate 1056 0) (a .t2) (drop 64 (a .t1)) 0 32 1024 (search needs) (omega (arith, n)) (omega (arith, l)))
+    c .before .copy-to .ensures
+    ∙ ap (λ (z : List ℕ). put z 0 (a .t2)) (c .before .before .before .before .before .shift .ensures)
+    ∙ over-first (a .chain) (a .t2) h n
 
 pub chain-shift-spec : {M : Type 1} → statement M
 chain-shift-spec =
     tie.close
-    (tie.spec
-    slice-aggregate-copy-to
-    slice-aggregate-copy-to-2
-    copy-to-requires
-    slice-aggregate-copy-to-3
-    sub-copy-to
-    part-copy-to-start
-    part-copy-to-end
-    copy-to-requires-2
-    returns)
+    (tie.spec slice-aggregate-shift shift-requires slice-aggregate-copy-to slice-aggregate-copy-to-2 copy-to-requires returns)

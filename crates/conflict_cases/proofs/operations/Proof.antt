@@ -11,6 +11,9 @@ Inv-loop s ops₀ i₀ ops i = (i ≤ 32) × (length ops ≡ 32)
 abbrev μ-loop : tie.MeasureT-loop
 μ-loop s ops₀ i₀ ops i = 32 - i
 
+no-op-requires : tie.Need-no-op-requires Inv-loop μ-loop
+no-op-requires c κs = search needs
+
 loop-holds : tie.Need-loop-holds Inv-loop μ-loop
 loop-holds c = search needs
 
@@ -41,6 +44,7 @@ operations-spec =
     (tie.spec
     Inv-loop
     μ-loop
+    no-op-requires
     loop-holds
     operation-at-requires
     mul-ops
