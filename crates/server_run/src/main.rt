@@ -169,7 +169,7 @@ fn call(states: &mut [u8], line: &[u8])
     call_lines::print_digest(&out);
 }
 
-fn start(states: &mut [u8], line: &[u8])
+fn fresh_at(states: &mut [u8], line: &[u8])
     requires { ⌜ 6864 ≤ length (now states) ⌝ }
 {
     call_lines::print(b"fresh");
@@ -186,7 +186,7 @@ fn one(states: &mut [u8], line: &[u8])
         return;
     }
     if letter == b'f' {
-        start(states, line);
+        fresh_at(states, line);
         return;
     }
     if letter == b'c' {
