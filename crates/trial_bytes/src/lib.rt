@@ -1,21 +1,60 @@
-// What the trial program reads, keeps and prints, as bytes.
+// What the trial program reads, keeps and prints, as bytes. Definitions: specs/Held.antt.
 use libc::STDIN_FILENO;
 use libc::STDOUT_FILENO;
 ghost use mathlib.Core.Path.{_≡_};
-ghost use Prim.Native.Nat.{_+_, _-_, _≤_};
+ghost use Prim.Native.Nat.{_+_, _-_, _≤_, _<_};
 ghost use lib.ListN.{length, take, drop};
+ghost use Rattle.trial_bytes.specs.Held.{Ends, Reads, Keeps};
 
-// One read, of bytes to stand after the first `held`; 0 at the end of the input, and where it fails.
-pub fn read(buf: &mut [u8], held: usize) -> usize
-    requires { ⌜ held ≤ length (now buf) ⌝ }
-    ensures { λ r. ⌜ held + r ≤ length (now (buf .entry)) ⌝ }
+// One read, of bytes to stand after the first `held`; 0 at the end of the input, where it fails, and where no more than a buffer of
+// bytes may yet be read.
+fn read(buf: &mut [u8], held: usize, left: u64) -> usize
+    requires { ⌜ (held ≤ length (now buf)) × (0 < left) ⌝ }
+    ensures { λ r. ⌜ (held + r ≤ length (now (buf .entry))) × (r < left) × (take held (now (buf .exit)) ≡ take held (now (buf .entry))) ⌝ }
 {
+    if left <= buf.len() as u64 {
+        return 0;
+    }
     let got = libc::read(STDIN_FILENO, &mut buf[held..]);
     io::count(got, &buf[held..])
 }
 
+// At the end of the input: a line feed after the bytes held, where there are any. How many bytes there are then.
+fn end_line(buf: &mut [u8], held: usize) -> usize
+    requires { ⌜ held < length (now buf) ⌝ }
+    ensures { λ r. ⌜ Ends (now (buf .entry)) (now (buf .exit)) held r ⌝ }
+{
+    if held == 0 {
+        return 0;
+    }
+    buf[held] = 10;
+    held + 1
+}
+
+// After a read: how many bytes there are, and how many may yet be read, 0 after the end of the input.
+pub struct Input {
+    pub count: usize,
+    pub left: u64,
+}
+
+// Reads more, to stand after the `held` bytes of a line; at the end of the input they are the last line.
+pub fn read_on(buf: &mut [u8], held: usize, left: u64) -> Input
+    requires { ⌜ (held < length (now buf)) × (0 < left) ⌝ }
+    ensures { λ r. ⌜ Reads (now (buf .entry)) (now (buf .exit)) held left r ⌝ }
+{
+    let got = read(buf, held, left);
+    if got == 0 {
+        let count = end_line(buf, held);
+        return Input { count, left: 0 };
+    }
+    Input {
+        count: held + got,
+        left: left - got as u64,
+    }
+}
+
 // Moves the bytes from `from` to `to` to the front.
-pub fn shift(buf: &mut [u8], from: usize, to: usize)
+fn shift(buf: &mut [u8], from: usize, to: usize)
     requires { ⌜ (from ≤ to) × (to ≤ length (now buf)) ⌝ }
     ensures { λ _. ⌜ take (to - from) (now (buf .exit)) ≡ take (to - from) (drop from (now (buf .entry))) ⌝ }
 {
@@ -24,6 +63,28 @@ pub fn shift(buf: &mut [u8], from: usize, to: usize)
         buf[i - from] = buf[i];
         i += 1;
     }
+}
+
+// How many bytes stay held of the first `held`, which are not yet a line. Where they fill the buffer the line is over-long: a NUL byte
+// stands for them, and makes the line one of another form, whatever follows.
+fn over_long(buf: &mut [u8], held: usize) -> usize
+    requires { ⌜ (held ≤ length (now buf)) × (1 < length (now buf)) ⌝ }
+    ensures { λ r. ⌜ Keeps (now (buf .entry)) (now (buf .exit)) 0 held r ⌝ }
+{
+    if held < buf.len() {
+        return held;
+    }
+    buf[0] = 0;
+    1
+}
+
+// Keeps the bytes from `from` to `to`, which are not yet a line, at the front: how many are held then.
+pub fn keep(buf: &mut [u8], from: usize, to: usize) -> usize
+    requires { ⌜ (from ≤ to) × (to ≤ length (now buf)) × (1 < length (now buf)) ⌝ }
+    ensures { λ r. ⌜ Keeps (now (buf .entry)) (now (buf .exit)) from (to - from) r ⌝ }
+{
+    shift(buf, from, to);
+    over_long(buf, to - from)
 }
 
 // Prints the first `n` bytes.

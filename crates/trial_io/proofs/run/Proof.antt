@@ -6,11 +6,11 @@ use Rattle.trial_io.proofs.run.Statement.{statement}
 use Rattle.trial_io.proofs.run.Tie as tie
 
 abbrev Inv-loop : tie.InvT-loop
-Inv-loop buf₀ out₀ log₀ replies₀ invokes₀ state₀ held₀ left₀ buf out log replies invokes state held left =
-    (held < 65536) × (length buf ≡ 65536) × (length out ≡ 65536) × (state .number + held + left ≤ 18446744073709551614)
+Inv-loop buf₀ out₀ log₀ replies₀ invokes₀ trial₀ number₀ held₀ left₀ buf out log replies invokes trial number held left =
+    (held < 65536) × (length buf ≡ 65536) × (length out ≡ 65536) × (number + held + left ≤ 18446744073709551615)
 
 abbrev μ-loop : tie.MeasureT-loop
-μ-loop buf₀ out₀ log₀ replies₀ invokes₀ state₀ held₀ left₀ buf out log replies invokes state held left = left
+μ-loop buf₀ out₀ log₀ replies₀ invokes₀ trial₀ number₀ held₀ left₀ buf out log replies invokes trial number held left = left
 
 large-buffer-requires : tie.Need-large-buffer-requires Inv-loop μ-loop
 large-buffer-requires c κs = search needs
@@ -18,14 +18,14 @@ large-buffer-requires c κs = search needs
 large-buffer-requires-2 : tie.Need-large-buffer-requires-2 Inv-loop μ-loop
 large-buffer-requires-2 c κs = search needs
 
-bytes-40960-requires : tie.Need-bytes-40960-requires Inv-loop μ-loop
-bytes-40960-requires c κs = search needs
+zero-log-requires : tie.Need-zero-log-requires Inv-loop μ-loop
+zero-log-requires c κs = search needs
 
-bytes-10520-requires : tie.Need-bytes-10520-requires Inv-loop μ-loop
-bytes-10520-requires c κs = search needs
+zero-replies-requires : tie.Need-zero-replies-requires Inv-loop μ-loop
+zero-replies-requires c κs = search needs
 
-bytes-344-requires : tie.Need-bytes-344-requires Inv-loop μ-loop
-bytes-344-requires c κs = search needs
+zero-invokes-requires : tie.Need-zero-invokes-requires Inv-loop μ-loop
+zero-invokes-requires c κs = search needs
 
 start-requires : tie.Need-start-requires Inv-loop μ-loop
 start-requires c κs = search needs
@@ -33,38 +33,26 @@ start-requires c κs = search needs
 loop-holds : tie.Need-loop-holds Inv-loop μ-loop
 loop-holds c = search needs
 
-slice-aggregate-turn : tie.Need-slice-aggregate-turn Inv-loop μ-loop
-slice-aggregate-turn c = search needs
+slice-aggregate-read-on : tie.Need-slice-aggregate-read-on Inv-loop μ-loop
+slice-aggregate-read-on c = search needs
 
-slice-aggregate-turn-2 : tie.Need-slice-aggregate-turn-2 Inv-loop μ-loop
-slice-aggregate-turn-2 c = search needs
+read-on-requires : tie.Need-read-on-requires Inv-loop μ-loop
+read-on-requires c κs = search needs
 
-turn-requires : tie.Need-turn-requires Inv-loop μ-loop
-turn-requires c κs = search needs
+slice-aggregate-whole-lines : tie.Need-slice-aggregate-whole-lines Inv-loop μ-loop
+slice-aggregate-whole-lines c = search needs
 
-left-after-requires : tie.Need-left-after-requires Inv-loop μ-loop
-left-after-requires c κs = search needs
+slice-aggregate-whole-lines-2 : tie.Need-slice-aggregate-whole-lines-2 Inv-loop μ-loop
+slice-aggregate-whole-lines-2 c = search needs
+
+whole-lines-requires : tie.Need-whole-lines-requires Inv-loop μ-loop
+whole-lines-requires c κs = search needs
 
 loop-less : tie.Need-loop-less Inv-loop μ-loop
 loop-less c = search needs
 
 loop-again : tie.Need-loop-again Inv-loop μ-loop
 loop-again c = search needs
-
-sub-last : tie.Need-sub-last Inv-loop μ-loop
-sub-last c = search needs
-
-part-last-start : tie.Need-part-last-start Inv-loop μ-loop
-part-last-start c = search needs
-
-part-last-end : tie.Need-part-last-end Inv-loop μ-loop
-part-last-end c = search needs
-
-slice-aggregate-last : tie.Need-slice-aggregate-last Inv-loop μ-loop
-slice-aggregate-last c = search needs
-
-last-requires : tie.Need-last-requires Inv-loop μ-loop
-last-requires c κs = search needs
 
 returns : tie.Need-returns Inv-loop μ-loop
 returns c = search needs
@@ -77,20 +65,16 @@ run-spec =
     μ-loop
     large-buffer-requires
     large-buffer-requires-2
-    bytes-40960-requires
-    bytes-10520-requires
-    bytes-344-requires
+    zero-log-requires
+    zero-replies-requires
+    zero-invokes-requires
     start-requires
     loop-holds
-    slice-aggregate-turn
-    slice-aggregate-turn-2
-    turn-requires
-    left-after-requires
+    slice-aggregate-read-on
+    read-on-requires
+    slice-aggregate-whole-lines
+    slice-aggregate-whole-lines-2
+    whole-lines-requires
     loop-less
     loop-again
-    sub-last
-    part-last-start
-    part-last-end
-    slice-aggregate-last
-    last-requires
     returns)

@@ -1,19 +1,21 @@
 use Prim.Native.Nat.{_+_, _-_, _≤_}
 use mathlib.Core.Path.{_≡_}
+use native.Mathlib.Omega.{arith}
 use borrow.Author.Needs.{needs}
 use lib.ListN.{length}
+use Rattle.trial_io.proofs.Laws.{Passed, passed-none, passed-more, whole}
 use Rattle.trial_io.proofs.whole_lines.Statement.{statement}
 use Rattle.trial_io.proofs.whole_lines.Tie as tie
 
 abbrev Inv-loop : tie.InvT-loop
-Inv-loop text out₀ log₀ replies₀ invokes₀ skipping trial₀ number₀ at₀ out log replies invokes trial number at =
-    (at ≤ length text) × (number ≤ number₀ + at) × (length out ≡ length out₀)
+Inv-loop first n buf out₀ log₀ replies₀ invokes₀ trial₀ number₀ at₀ used₀ out log replies invokes trial number at used =
+    Passed buf n first number at used × (length out ≡ length out₀)
 
 abbrev μ-loop : tie.MeasureT-loop
-μ-loop text out₀ log₀ replies₀ invokes₀ skipping trial₀ number₀ at₀ out log replies invokes trial number at = length text - at
+μ-loop first n buf out₀ log₀ replies₀ invokes₀ trial₀ number₀ at₀ used₀ out log replies invokes trial number at used = n + used - at
 
 loop-holds : tie.Need-loop-holds Inv-loop μ-loop
-loop-holds c = search needs
+loop-holds c = (passed-none _ _ _, search needs)
 
 sub-answers : tie.Need-sub-answers Inv-loop μ-loop
 sub-answers c = search needs
@@ -27,32 +29,36 @@ part-answers-end c = search needs
 answers-requires : tie.Need-answers-requires Inv-loop μ-loop
 answers-requires c κs = search needs
 
-print-requires : tie.Need-print-requires Inv-loop μ-loop
-print-requires c κs = search needs
-
 add-number : tie.Need-add-number Inv-loop μ-loop
 add-number c = search needs
 
-same-length : tie.Need-same-length Inv-loop μ-loop
-same-length c = search needs
-
-returns : tie.Need-returns Inv-loop μ-loop
-returns c = search needs
-
 add-at : tie.Need-add-at Inv-loop μ-loop
 add-at c = search needs
+
+print-requires : tie.Need-print-requires Inv-loop μ-loop
+print-requires c κs = search needs
 
 loop-less : tie.Need-loop-less Inv-loop μ-loop
 loop-less c = search needs
 
 loop-again : tie.Need-loop-again Inv-loop μ-loop
-loop-again c = search needs
+loop-again c =
+    let k = c .before .before .before .before .before .before .before .before .before .before .before .before .before .before .loop in
+    let a = c .before .before .before .before .before .before .answers in
+    let g : 64 ≤ length (k .out) = omega (arith, c .before .before .before .before .before .before .before .before .before .before .before .before .before .before .before .before .before .pre .2, k .inv .1) in
+    (passed-more g (search needs) (k .inv .0) (a .ensures), search needs)
+
+keep-requires : tie.Need-keep-requires Inv-loop μ-loop
+keep-requires c κs = search needs
+
+same-length : tie.Need-same-length Inv-loop μ-loop
+same-length c = search needs
 
 same-length-2 : tie.Need-same-length-2 Inv-loop μ-loop
 same-length-2 c = search needs
 
-returns-2 : tie.Need-returns-2 Inv-loop μ-loop
-returns-2 c = search needs
+returns : tie.Need-returns Inv-loop μ-loop
+returns c = whole (search needs) (c .before .before .before .before .before .loop .inv .0) (c .before .before .keep .ensures)
 
 pub whole-lines-spec : {M : Type 1} → statement M
 whole-lines-spec =
@@ -65,12 +71,12 @@ whole-lines-spec =
     part-answers-start
     part-answers-end
     answers-requires
-    print-requires
     add-number
-    same-length
-    returns
     add-at
+    print-requires
     loop-less
     loop-again
+    keep-requires
+    same-length
     same-length-2
-    returns-2)
+    returns)
