@@ -3,7 +3,7 @@ use libc::STDIN_FILENO;
 use libc::STDOUT_FILENO;
 ghost use mathlib.Core.Path.{_≡_};
 ghost use Prim.Native.Nat.{_+_, _-_, _≤_, _<_};
-ghost use lib.ListN.{length, take, drop};
+ghost use lib.ListN.{length, take};
 ghost use Rattle.trial_bytes.specs.Held.{Ends, Reads, Keeps};
 
 // One read, of bytes to stand after the first `held`; 0 at the end of the input, where it fails, and where no more than a buffer of
@@ -53,18 +53,6 @@ pub fn read_on(buf: &mut [u8], held: usize, left: u64) -> Input
     }
 }
 
-// Moves the bytes from `from` to `to` to the front.
-fn shift(buf: &mut [u8], from: usize, to: usize)
-    requires { ⌜ (from ≤ to) × (to ≤ length (now buf)) ⌝ }
-    ensures { λ _. ⌜ take (to - from) (now (buf .exit)) ≡ take (to - from) (drop from (now (buf .entry))) ⌝ }
-{
-    let mut i = from;
-    while i < to {
-        buf[i - from] = buf[i];
-        i += 1;
-    }
-}
-
 // How many bytes stay held of the first `held`, which are not yet a line. Where they fill the buffer the line is over-long: a NUL byte
 // stands for them, and makes the line one of another form, whatever follows.
 fn over_long(buf: &mut [u8], held: usize) -> usize
@@ -83,7 +71,7 @@ pub fn keep(buf: &mut [u8], from: usize, to: usize) -> usize
     requires { ⌜ (from ≤ to) × (to ≤ length (now buf)) × (1 < length (now buf)) ⌝ }
     ensures { λ r. ⌜ Keeps (now (buf .entry)) (now (buf .exit)) from (to - from) r ⌝ }
 {
-    shift(buf, from, to);
+    shifts::to_front(buf, from, to);
     over_long(buf, to - from)
 }
 
