@@ -21,7 +21,7 @@ shared-slice-read-if1 : tie.Need-shared-slice-read-if1 Inv-loop μ-loop
 shared-slice-read-if1 c = search needs
 
 returns : tie.Need-returns Inv-loop μ-loop
-returns c = (due-stop (c .before .before .before .before .args .statuses .now) (c .before .before .before .loop .i) (c .before .before .before .loop .inv .0) (c .before .before .loop-test .taken) (c .if1 .taken), c .before .before .before .loop .inv .1)
+returns c = (due-stop (c .before .before .before .before .args .statuses .now) (c .before .before .before .loop .i) (c .before .before .before .loop .inv .0) (omega arith) (c .if1 .taken), c .before .before .before .loop .inv .1)
 
 add-i : tie.Need-add-i Inv-loop μ-loop
 add-i c = search needs
@@ -30,7 +30,7 @@ loop-less : tie.Need-loop-less Inv-loop μ-loop
 loop-less c = search needs
 
 loop-again : tie.Need-loop-again Inv-loop μ-loop
-loop-again c = (due-go (c .before .before .before .before .args .statuses .now) (c .before .before .before .loop .i) (c .before .before .before .loop .inv .0) (c .before .before .loop-test .taken) (c .if1 .left), search needs)
+loop-again c = (due-go (c .before .before .before .before .args .statuses .now) (c .before .before .before .loop .i) (c .before .before .before .loop .inv .0) (omega arith) (c .if1 .left), search needs)
 
 returns-2 : tie.Need-returns-2 Inv-loop μ-loop
 returns-2 c = (due-end (c .before .before .args .statuses .now) (c .before .loop .i) (c .before .loop .inv .0) (c .loop-test .left), c .before .loop .inv .1)
