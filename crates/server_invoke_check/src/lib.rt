@@ -6,13 +6,14 @@ ghost use lib.Dec.{eqb};
 ghost use Rattle.message.specs.Layout.{clientCount, maxSeq};
 ghost use Rattle.checks.specs.Checks.{firstNo};
 ghost use Rattle.server.specs.Server.{placingChecks};
+ghost use Rattle.server.specs.declared.Server.{Server};
+ghost use Rattle.server.specs.Slots.{serverOf};
 use message::Item;
-use server::Server;
 
 // A client's last placed count.
-fn last_count(counts: [u32; message::CLIENTS as usize], author: u8) -> u32
+fn last_count(counts: &[u32; message::CLIENTS as usize], author: u8) -> u32
     requires { ⌜ (1 ≤ author) × (author ≤ clientCount) ⌝ }
-    ensures { λ r. ⌜ r ≡ getD counts (author - 1) 0 ⌝ }
+    ensures { λ r. ⌜ r ≡ getD (now (counts .entry)) (author - 1) 0 ⌝ }
 {
     let at = (author - 1) as usize;
     counts[at]
@@ -25,17 +26,21 @@ fn is_next(count: u32, last: u32) -> bool
     count as u64 == last as u64 + 1
 }
 
-// The checks, in their order.
-pub fn invoke_check(s: Server, i: Item, room: usize) -> u8
-    requires { ⌜ (s .passed ≤ s .placed) × (s .placed ≤ maxSeq) × (1 ≤ i .author) × (i .author ≤ clientCount) ⌝ }
-    ensures { λ q. ⌜ q ≡ firstNo 0 (placingChecks s i room) ⌝ }
+// The checks, in their order, of a server with these numbers and counts.
+pub fn placing_check(
+    placed: u32,
+    passed: u32,
+    counts: &[u32; message::CLIENTS as usize],
+    i: Item,
+    room: usize,
+) -> u8
+    requires { ⌜ (passed ≤ placed) × (placed ≤ maxSeq) × (1 ≤ i .author) × (i .author ≤ clientCount) ⌝ }
+    ensures { λ q. ⌜ ((s : Server) → q ≡ firstNo 0 (placingChecks (serverOf placed passed (now (counts .entry)) (s .items) (s .statuses) (s .digests) (s .tags)) i room)) ⌝ }
 {
-    let counts = s.counts;
     let e = i.op;
-    let placed = s.placed;
     let last = last_count(counts, i.author);
     let next = is_next(e.count, last);
-    let waiting = (placed - s.passed) as usize;
+    let waiting = (placed - passed) as usize;
     let q = checks::also(0, next, 32);
     let q = checks::also(q, waiting < operation::MAX_PENDING, 33);
     let q = checks::also(q, placed < message::MAX_SEQ, 34);

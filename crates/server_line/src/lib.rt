@@ -3,8 +3,8 @@ ghost use mathlib.Core.Path.{_≡_};
 ghost use lib.ListN.{getD};
 ghost use Rattle.message.specs.Layout.{authorOffset};
 ghost use Rattle.checks.specs.Checks.{firstNo};
-ghost use Rattle.server.specs.Server.{lineChecks};
-use server::Server;
+ghost use Rattle.server.specs.Server.{inRange, lineChecks};
+ghost use Rattle.server.specs.declared.Server.{Server};
 
 // The author of an invoke or a commit.
 fn author_of(m: &[u8]) -> u8
@@ -17,13 +17,13 @@ fn author_of(m: &[u8]) -> u8
     }
 }
 
-// The checks, in their order.
-pub fn line_check(s: Server, line: u8, m: &[u8]) -> u8
-    ensures { λ q. ⌜ q ≡ firstNo 0 (lineChecks s line (now (m .entry))) ⌝ }
+// The checks, in their order; `range` is check 8.
+pub fn line_check(range: bool, line: u8, m: &[u8]) -> u8
+    ensures { λ q. ⌜ ((s : Server) → range ≡ inRange s → q ≡ firstNo 0 (lineChecks s line (now (m .entry)))) ⌝ }
 {
     let author = author_of(m);
     let form = server_form::whole_invoke(m) | server_form::whole_commit(m);
-    let q = checks::also(0, server_range::in_range(s), 8);
+    let q = checks::also(0, range, 8);
     let q = checks::also(q, form, 30);
     checks::also(q, author == line, 31)
 }

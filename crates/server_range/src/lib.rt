@@ -4,7 +4,7 @@ ghost use lib.Dec.{leb};
 ghost use Rattle.operation.specs.Operation.{maxCount};
 ghost use Rattle.slices.specs.Bytes.{all};
 ghost use Rattle.server.specs.Server.{inRange};
-use server::Server;
+ghost use Rattle.server.specs.Slots.{serverOf};
 
 // Whether each count is at most 1,000,000.
 fn counts_ok(counts: &[u32]) -> bool
@@ -20,19 +20,25 @@ fn counts_ok(counts: &[u32]) -> bool
     true
 }
 
-// Check 8: whether each field is in range.
-pub fn in_range(s: Server) -> bool
-    ensures { λ r. ⌜ r ≡ inRange s ⌝ }
+// Check 8: whether each field of the server of these parts is in range.
+pub fn in_range<'a>(
+    placed: u32,
+    passed: u32,
+    counts: &'a [u32; message::CLIENTS as usize],
+    items: &'a [u8; server::ITEMS_LENGTH],
+    statuses: &'a [u8; operation::MAX_PENDING],
+    digests: &'a [u8; server::DIGESTS_LENGTH],
+    tags: &'a [u8; server::TAGS_LENGTH],
+) -> bool
+    ensures { λ r. ⌜ r ≡ inRange (serverOf placed passed (now (counts .entry)) (now (items .entry)) (now (statuses .entry)) (now (digests .entry)) (now (tags .entry))) ⌝ }
 {
-    let n = server::minus(s.placed, s.passed) as usize;
+    let n = server::minus(placed, passed) as usize;
     if n <= operation::MAX_PENDING {
-        let counts = s.counts;
-        let statuses = s.statuses;
-        let c = counts_ok(&counts);
-        let u = slices::each_most(&statuses, 2);
-        let o = server_slots::slots_ok(&s.items, &s.statuses, &s.digests, &s.tags, n);
-        let z = server_unused::unused_ok(s, n);
-        (s.passed <= s.placed) & (s.placed <= message::MAX_SEQ) & c & u & o & z
+        let c = counts_ok(counts);
+        let u = slices::each_most(statuses, 2);
+        let o = server_slots::slots_ok(items, statuses, digests, tags, n);
+        let z = server_unused::unused_ok(items, statuses, digests, tags, n);
+        (passed <= placed) & (placed <= message::MAX_SEQ) & c & u & o & z
     } else {
         false
     }

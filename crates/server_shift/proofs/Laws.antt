@@ -1,14 +1,11 @@
 -- Laws of shifts. Assumes nothing.
 use Prim.Native.Nat.{ℕ, _+_, _-_}
 use mathlib.Core.Path.{_≡_, ap, _∙_}
-use mathlib.Core.List.{List, _++_, append-nil}
+use mathlib.Core.List.{List, _++_}
 use lib.ListN.{length, take, drop, replicate, length-drop, length-replicate, replicate-append-replicate}
 use lib.Seq.{take-all, drop-at}
-use native.Mathlib.Nat.{add-zero}
 use native.Mathlib.Omega.{arith}
 use Rattle.slices.specs.Bytes.{put}
-use Rattle.server.specs.declared.Server.{Server}
-use Rattle.server.specs.Server.{passedServer}
 
 zeros-drop : (n m z : ℕ) → drop n (replicate (n + m) z) ≡ replicate m z
 zeros-drop n m z = rw (← replicate-append-replicate n m z) (drop-at (replicate n z) (replicate m z) n (length-replicate n z))
@@ -21,8 +18,3 @@ shifted s a b n o h e =
     let g : n ≡ 0 + b + a = omega arith in
     let z : drop (0 + b) (replicate n o) ≡ replicate a o = ap (λ (x : ℕ). drop (0 + b) (replicate x o)) g ∙ zeros-drop (0 + b) a o in
     rw (t, l) (ap (λ (x : List ℕ). drop a s ++ x) z)
-
--- none passed on: the state as it was
-pub none-passed : (s : Server) (n : ℕ) → n ≡ 0 → passedServer s n ≡ s
-unfolding passedServer
-none-passed s n e = rw e (simp (append-nil, add-zero))

@@ -1,8 +1,8 @@
-use Rattle.server_shift.proofs.Laws.{shifted}
-use mathlib.Core.Path.{_≡_, _∙_}
 use Prim.Native.Nat.{_-_}
+use mathlib.Core.Path.{_≡_, _∙_}
 use lib.ListN.{length}
 use native.Mathlib.Omega.{arith}
+use Rattle.server_shift.proofs.Laws.{shifted}
 use borrow.Author.Needs.{needs}
 use Rattle.server_shift.proofs.shifted_statuses.Statement.{statement}
 use Rattle.server_shift.proofs.shifted_statuses.Tie as tie
@@ -25,8 +25,16 @@ copy-to-requires c κs = search needs
 returns : tie.Need-returns
 returns c =
     let a = c .before .before .before .before .before .args in
-    let h : length (a .t1) ≡ 32 = search needs in
-    c .before .copy-to .ensures ∙ shifted (a .t1) (a .n) (32 - a .n) 32 0 h (omega arith)
+    let h : length (a .statuses .now) ≡ 32 = search needs in
+    c .before .copy-to .ensures ∙ shifted (a .statuses .now) (a .n) (32 - a .n) 32 0 h (omega arith)
 
 pub shifted-statuses-spec : {M : Type 1} → statement M
-shifted-statuses-spec = tie.close (tie.spec slice-aggregate-copy-to sub-copy-to part-copy-to-start part-copy-to-end copy-to-requires returns)
+shifted-statuses-spec =
+    tie.close
+    (tie.spec
+    slice-aggregate-copy-to
+    sub-copy-to
+    part-copy-to-start
+    part-copy-to-end
+    copy-to-requires
+    returns)
