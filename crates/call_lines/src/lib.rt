@@ -122,7 +122,7 @@ pub fn print(s: &[u8]) {
     io::write_all(STDOUT_FILENO, s);
 }
 
-pub fn end_line() {
+pub fn print_end() {
     print(b"\n");
 }
 

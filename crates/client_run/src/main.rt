@@ -181,7 +181,7 @@ fn buffer() -> [u8; 128]
 }
 
 // Prints the outcome, keeps the replica, and prints its digest.
-fn keep(states: &mut [u8], to: usize, stepped: Stepped)
+fn keep_state(states: &mut [u8], to: usize, stepped: Stepped)
     requires { ⌜ to + 1382 ≤ length (now states) ⌝ }
 {
     let replica = stepped.replica;
@@ -201,7 +201,7 @@ fn call(states: &mut [u8], line: &[u8], letter: u8)
     let r = replica_of(&states[from..e]);
     let mut out = buffer();
     let stepped = step_in(r, line, letter, &mut out);
-    keep(states, to, stepped);
+    keep_state(states, to, stepped);
     call_lines::print_digest(&out);
 }
 
@@ -215,7 +215,7 @@ fn one(states: &mut [u8], line: &[u8])
         return;
     }
     if letter == b'o' {
-        keep(states, slot(line, 1), open(line));
+        keep_state(states, slot(line, 1), open(line));
         return;
     }
     if letter == b'c' {
@@ -232,7 +232,7 @@ fn lines(states: &mut [u8], text: &[u8])
     while at < text.len() {
         let e = call_lines::end(text, at, 10);
         one(states, &text[at..e]);
-        call_lines::end_line();
+        call_lines::print_end();
         at = e + 1;
     }
 }

@@ -122,7 +122,7 @@ fn store(state: &mut [u8], s: Server) {
 }
 
 // Keeps the state, and prints its digest.
-fn keep(states: &mut [u8], to: usize, s: Server)
+fn keep_state(states: &mut [u8], to: usize, s: Server)
     requires { ⌜ to + 3432 ≤ length (now states) ⌝ }
 {
     let e = to + 3432;
@@ -165,7 +165,7 @@ fn call(states: &mut [u8], line: &[u8])
     let server = served.server;
     let outcome = served.outcome;
     print_outcome(outcome);
-    keep(states, to, server);
+    keep_state(states, to, server);
     call_lines::print_digest(&out);
 }
 
@@ -173,7 +173,7 @@ fn fresh_at(states: &mut [u8], line: &[u8])
     requires { ⌜ 6864 ≤ length (now states) ⌝ }
 {
     call_lines::print(b"fresh");
-    keep(states, slot(line, 1), server::fresh());
+    keep_state(states, slot(line, 1), server::fresh());
 }
 
 // A line's first letter says what it asks.
@@ -203,7 +203,7 @@ fn lines(states: &mut [u8], text: &[u8])
     while at < text.len() {
         let e = call_lines::end(text, at, 10);
         one(states, &text[at..e]);
-        call_lines::end_line();
+        call_lines::print_end();
         at = e + 1;
     }
 }

@@ -76,7 +76,7 @@ fn lines(text: &[u8]) {
     while at < text.len() {
         let e = call_lines::end(text, at, 10);
         one(&text[at..e]);
-        call_lines::end_line();
+        call_lines::print_end();
         at = e + 1;
     }
 }
