@@ -4,15 +4,16 @@ ghost use Prim.Native.Nat.{_≤_};
 ghost use mathlib.Core.Bool.{true};
 ghost use mathlib.Core.Logic.{_↔_, _⊎_};
 ghost use lib.ListN.{length, take};
-ghost use Rattle.operation.specs.Operation.{value, response};
+ghost use Rattle.operation.specs.Operation.{maxPending, value, response};
 ghost use Rattle.conflict.specs.Conflict.{conflicts};
 ghost use Rattle.conflict_cell.specs.Differs.{Differs};
 ghost use Rattle.conflict.specs.Cells.{onCell};
+use operation::Cells;
 use operation::Operation;
 
 // How many of the first `n` operations are on the cell k.
-fn count_on(ops: [Operation; 32], n: usize, k: u8) -> usize
-    requires { ⌜ n ≤ 32 ⌝ }
+fn count_on(ops: [Operation; operation::MAX_PENDING], n: usize, k: u8) -> usize
+    requires { ⌜ n ≤ maxPending ⌝ }
     ensures { λ r. ⌜ (r ≡ length (onCell k (take n ops))) × (r ≤ n) ⌝ }
 {
     let mut c = 0;
@@ -28,8 +29,12 @@ fn count_on(ops: [Operation; 32], n: usize, k: u8) -> usize
 }
 
 // Those of the first `n` operations that are on the cell k, at the front.
-fn gather_on(ops: [Operation; 32], n: usize, k: u8) -> [Operation; 32]
-    requires { ⌜ n ≤ 32 ⌝ }
+fn gather_on(
+    ops: [Operation; operation::MAX_PENDING],
+    n: usize,
+    k: u8,
+) -> [Operation; operation::MAX_PENDING]
+    requires { ⌜ n ≤ maxPending ⌝ }
     ensures { λ r. ⌜ take (length (onCell k (take n ops))) r ≡ onCell k (take n ops) ⌝ }
 {
     let mut new = ops;
@@ -51,12 +56,12 @@ fn gather_on(ops: [Operation; 32], n: usize, k: u8) -> [Operation; 32]
 fn conflict_on(
     k: u8,
     start: u8,
-    others: [Operation; 32],
+    others: [Operation; operation::MAX_PENDING],
     n: usize,
-    own: [Operation; 32],
+    own: [Operation; operation::MAX_PENDING],
     m: usize,
 ) -> bool
-    requires { ⌜ (n ≤ 32) × (m ≤ 32) ⌝ }
+    requires { ⌜ (n ≤ maxPending) × (m ≤ maxPending) ⌝ }
     ensures { λ r. ⌜ (r ≡ true) ↔ Differs value response start start (onCell k (take n others)) (onCell k (take m own)) ⌝ }
 {
     let b = count_on(own, m, k);
@@ -70,27 +75,31 @@ fn conflict_on(
     conflict_cell::conflict_at(start, gather_on(others, n, k), a, gather_on(own, m, k), b)
 }
 
-// The number, at most 32.
-fn at_most_32(n: usize) -> usize
-    ensures { λ r. ⌜ (r ≤ 32) × ((r ≡ n) ⊎ ((r ≡ 32) × (32 ≤ n))) ⌝ }
+// The number, at most `MAX_PENDING`.
+fn at_most_pending(n: usize) -> usize
+    ensures { λ r. ⌜ (r ≤ maxPending) × ((r ≡ n) ⊎ ((r ≡ maxPending) × (maxPending ≤ n))) ⌝ }
 {
-    if n < 32 { n } else { 32 }
+    if n < operation::MAX_PENDING {
+        n
+    } else {
+        operation::MAX_PENDING
+    }
 }
 
-// Whether the first `n` of the others' operations conflict with the first `m` own ones. A number above 32 means all 32.
+// Whether the first `n` of the others' operations conflict with the first `m` own ones. A number above `MAX_PENDING` means all.
 pub fn conflict(
-    cells: [u8; 16],
-    others: [Operation; 32],
+    cells: Cells,
+    others: [Operation; operation::MAX_PENDING],
     n: usize,
-    own: [Operation; 32],
+    own: [Operation; operation::MAX_PENDING],
     m: usize,
 ) -> bool
     ensures { λ r. ⌜ r ≡ conflicts cells (take n others) (take m own) ⌝ }
 {
-    let a = at_most_32(n);
-    let b = at_most_32(m);
+    let a = at_most_pending(n);
+    let b = at_most_pending(m);
     let mut k: usize = 0;
-    while k < 16 {
+    while k < operation::CELL_COUNT {
         if conflict_on(k as u8, cells[k], others, a, own, b) {
             return true;
         }

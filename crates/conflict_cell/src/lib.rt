@@ -4,7 +4,7 @@ ghost use Prim.Native.Nat.{_≤_};
 ghost use mathlib.Core.Bool.{true};
 ghost use mathlib.Core.Logic.{_↔_};
 ghost use lib.ListN.{take};
-ghost use Rattle.operation.specs.Operation.{value, response};
+ghost use Rattle.operation.specs.Operation.{maxPending, value, response};
 ghost use Rattle.conflict_cell.specs.Differs.{Differs};
 use operation::Operation;
 
@@ -12,12 +12,12 @@ use operation::Operation;
 // values that are reached with j own operations run, the own responses so far being as they are alone.
 pub fn conflict_at(
     start: u8,
-    others: [Operation; 32],
+    others: [Operation; operation::MAX_PENDING],
     n: usize,
-    own: [Operation; 32],
+    own: [Operation; operation::MAX_PENDING],
     m: usize,
 ) -> bool
-    requires { ⌜ (n ≤ 32) × (m ≤ 32) ⌝ }
+    requires { ⌜ (n ≤ maxPending) × (m ≤ maxPending) ⌝ }
     ensures { λ r. ⌜ (r ≡ true) ↔ Differs value response start start (take n others) (take m own) ⌝ }
 {
     // "One cell's values reached so far are 256 yes-or-no marks."

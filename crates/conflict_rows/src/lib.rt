@@ -4,6 +4,7 @@ ghost use Prim.Native.Nat.{ℕ, _+_, _≤_};
 ghost use mathlib.Core.Bool.{true};
 ghost use mathlib.Core.Logic.{_↔_};
 ghost use lib.ListN.{length};
+ghost use Rattle.operation.specs.Operation.{maxPending};
 ghost use Rattle.conflict_marks.specs.Marks.{Blank, Ran, Other, marksAt, Widened};
 use operation::Operation;
 
@@ -37,7 +38,7 @@ pub fn any_other(wide: &[bool; 768], e: Operation, u: u8) -> bool
 
 // Adds to each of the first m + 1 what one of the others' operations makes of it. (A read makes nothing new.)
 pub fn widen(reach: &mut [[bool; 256]; 33], m: usize, e: Operation)
-    requires { ⌜ (m ≤ 32) × (length (now reach) ≡ 33) × ((j : ℕ) → j ≤ m → length (marksAt (now reach) j) ≡ 256) ⌝ }
+    requires { ⌜ (m ≤ maxPending) × (length (now reach) ≡ 33) × ((j : ℕ) → j ≤ m → length (marksAt (now reach) j) ≡ 256) ⌝ }
     ensures { λ _. ⌜ Widened m e (now (reach .entry)) (now (reach .exit)) ⌝ }
 {
     if e.kind == 3 {

@@ -2,7 +2,7 @@
 ghost use mathlib.Core.Path.{_≡_};
 ghost use Prim.Native.Nat.{_+_, _≤_};
 ghost use lib.ListN.{take, getD};
-ghost use Rattle.operation.specs.Operation.{value, response, after, responseOn, effect, runAll};
+ghost use Rattle.operation.specs.Operation.{maxPending, value, response, after, responseOn, effect, runAll};
 use operation::Cells;
 use operation::Operation;
 use operation::Response;
@@ -91,7 +91,7 @@ pub fn effect_on(success: bool, e: Operation, cells: Cells) -> Cells
 
 // The cells after the first `n` of the operations.
 pub fn run_all(es: [Operation; operation::MAX_PENDING], n: usize, cells: Cells) -> Cells
-    requires { ⌜ n ≤ 32 ⌝ }
+    requires { ⌜ n ≤ maxPending ⌝ }
     ensures { λ r. ⌜ r ≡ runAll (take n es) cells ⌝ }
 {
     let mut t = cells;

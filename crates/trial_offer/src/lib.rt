@@ -94,9 +94,9 @@ pub fn offer_again(s: Server, l: Lines, replies: &mut [u8], invokes: &[u8]) -> A
 {
     let mut server = s;
     let mut lines = l;
-    let mut left = 8usize;
+    let mut left = trial_core::CLIENTS;
     while 0 < left {
-        let i = 8 - left;
+        let i = trial_core::CLIENTS - left;
         let o = offer_one(server, lines, i, replies, invokes);
         let after = o.server;
         let now = o.lines;

@@ -4,6 +4,7 @@ use mathlib.Core.List.{List, [], _∷_}
 use mathlib.Core.Bool.{cond, _&&_}
 use lib.Dec.{leb}
 use Rattle.slices.specs.Bytes.{same}
+use Rattle.message.specs.Layout.{clientCount}
 use Rattle.text.specs.Text.{numberOf}
 use Rattle.trial_words.specs.declared.Command.{Command}
 use Rattle.trial_words.specs.declared.Command.the-variants as C
@@ -28,11 +29,11 @@ wordNumber w = numberOf 256 w
 unfoldable pub fromWords : List (List ℕ) → Asked
 fromWords [] = other
 fromWords (w ∷ []) = other
-fromWords (w ∷ v ∷ []) = cond (same w (68 ∷ []) && leb 1 (wordNumber v) && leb (wordNumber v) 8) (deliver (wordNumber v)) other
+fromWords (w ∷ v ∷ []) = cond (same w (68 ∷ []) && leb 1 (wordNumber v) && leb (wordNumber v) clientCount) (deliver (wordNumber v)) other
 fromWords (w ∷ v ∷ k ∷ []) = other
 fromWords (w ∷ v ∷ k ∷ c ∷ []) = other
 fromWords (w ∷ v ∷ k ∷ c ∷ a ∷ []) =
-    cond (same w (73 ∷ []) && leb 1 (wordNumber v) && leb (wordNumber v) 8 && leb (wordNumber k) 255 && leb (wordNumber c) 255 && leb (wordNumber a) 255)
+    cond (same w (73 ∷ []) && leb 1 (wordNumber v) && leb (wordNumber v) clientCount && leb (wordNumber k) 255 && leb (wordNumber c) 255 && leb (wordNumber a) 255)
     (invoke (wordNumber v) (wordNumber k) (wordNumber c) (wordNumber a))
     other
 fromWords (w ∷ v ∷ k ∷ c ∷ a ∷ x ∷ ws) = other

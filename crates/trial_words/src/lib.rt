@@ -3,6 +3,9 @@ ghost use mathlib.Core.Path.{_≡_};
 ghost use mathlib.Core.List.{[], _∷_};
 ghost use Rattle.trial_words.specs.Words.{asked, fromWords};
 
+// The highest number of a client.
+const CLIENTS: u32 = message::CLIENTS as u32;
+
 // What a line of input asks.
 pub enum Command {
     Invoke {
@@ -20,7 +23,7 @@ pub fn deliver_of(w: &[u8], v: &[u8]) -> Command
     ensures { λ r. ⌜ asked r ≡ fromWords (now (w .entry) ∷ now (v .entry) ∷ []) ⌝ }
 {
     let van = text::number(v, 256);
-    if slices::equal(w, b"D") & (1 <= van) & (van <= 8) {
+    if slices::equal(w, b"D") & (1 <= van) & (van <= CLIENTS) {
         Command::Deliver(van as u8)
     } else {
         Command::Other
@@ -37,7 +40,7 @@ pub fn invoke_of(w: &[u8], v: &[u8], k: &[u8], c: &[u8], a: &[u8]) -> Command
     let amount = text::number(a, 256);
     if slices::equal(w, b"I")
         & (1 <= van)
-        & (van <= 8)
+        & (van <= CLIENTS)
         & (kind <= 255)
         & (cell <= 255)
         & (amount <= 255)
