@@ -14,40 +14,42 @@ use Rattle.operation.specs.declared.Operation.{Operation}
 use Rattle.operation.specs.Operation.{opBytes, responseOn, runAll}
 use Rattle.conflict.specs.Conflict.{conflicts}
 use Rattle.message.specs.declared.Item.{Item}
-use Rattle.message.specs.Message.{replyCount, commitString, commitBytes}
+use Rattle.message.specs.Message.{replyCount, replyItem, commitString, commitBytes}
 use Rattle.verify.proofs.Laws.{commit-tag-length}
 use Rattle.replica.specs.declared.Replica.{Replica}
 use Rattle.replica.specs.Places.{valueAt, statusAt}
 use Rattle.replica.specs.Replica.{Step, over, stop}
 use Rattle.client_reply_check.specs.ReplyChecks.{replyNo}
+use Rattle.client_reply.specs.Lists.{firsts}
 use Rattle.client_reply.specs.Reply.{chainAfter, Sorted, sortItem, sortTo, isAborted, lastResponse, lastSeq, saysOf, status, repliedReplica, commitMessage, replySuccess, replyStep}
 
 -- ---- the two lists
-module _ (c number : ℕ) (statuses : List ℕ) (k : ℕ) (i : Item) (s : Sorted) where
-  pub sort-own : i .author ≡ number → statusAt c k statuses ≡ 1
-      → record { others = s .others; own = s .own ++ (i .op ∷ []) } ≡ sortItem c number statuses k i s
-  unfolding sortItem
-  sort-own a d = rw (eq-eqb _ _ a, eq-eqb _ _ d)
-
-  pub sort-skip : i .author ≡ number → (statusAt c k statuses ≡ 1 → ⊥) → s ≡ sortItem c number statuses k i s
-  unfolding sortItem
-  sort-skip a d = rw (eq-eqb _ _ a, ne-eqb _ _ d)
-
-  pub sort-other : (i .author ≡ number → ⊥)
-      → record { others = s .others ++ (i .op ∷ []); own = s .own } ≡ sortItem c number statuses k i s
-  unfolding sortItem
-  sort-other a = rw (ne-eqb _ _ a)
-
 -- the first i + 1 of an array whose element at i is new
 pub take-set-more : (l : List Operation) (i : ℕ) (e : Operation) → i < length l → take (i + 1) (set l i e) ≡ take i l ++ (e ∷ [])
 take-set-more l i e h = rw add-one (take-suc-set l i e h)
 
+-- item k put into its list
+module _ (c number : ℕ) (statuses m : List ℕ) (k : ℕ) (i : Item) (e : i ≡ replyItem m k)
+    (others own : List Operation) (p q : ℕ) (f : firsts others p own q ≡ sortTo c number statuses m k) where
+  pub sort-own : i .author ≡ number → statusAt c k statuses ≡ 1 → q < length own
+      → firsts others p (set own q (i .op)) (q + 1) ≡ sortTo c number statuses m (k + 1)
+  unfolding sortTo sortItem
+  sort-own a d h = rw (take-set-more own q (i .op) h, add-one k, ← f, ← e, eq-eqb _ _ a, eq-eqb _ _ d)
+
+  pub sort-skip : i .author ≡ number → (statusAt c k statuses ≡ 1 → ⊥) → firsts others p own q ≡ sortTo c number statuses m (k + 1)
+  unfolding sortTo sortItem
+  sort-skip a d = rw (add-one k, ← f, ← e, eq-eqb _ _ a, ne-eqb _ _ d)
+
+  pub sort-other : (i .author ≡ number → ⊥) → p < length others
+      → firsts (set others p (i .op)) (p + 1) own q ≡ sortTo c number statuses m (k + 1)
+  unfolding sortTo sortItem
+  sort-other a h = rw (take-set-more others p (i .op) h, add-one k, ← f, ← e, ne-eqb _ _ a)
+
 -- ---- the verdict
 module _ (r : Replica) (m : List ℕ) (n : ℕ) (e : n ≡ replyCount m) (s : Sorted) (f : s ≡ sortTo (r .confirmed) (r .number) (r .statuses) m (n - 1)) where
-  pub aborted-is : (t : Sorted) → t ≡ record { others = s .others; own = s .own ++ (r .current ∷ []) }
-      → conflicts (r .cells) (t .others) (t .own) ≡ isAborted r m
+  pub aborted-is : conflicts (r .cells) (s .others) (s .own ++ (r .current ∷ [])) ≡ isAborted r m
   unfolding isAborted
-  aborted-is t g = rw (g, f, e)
+  aborted-is = rw (f, e)
 
   pub response-is : responseOn (r .current) (runAll (s .own) (r .cells)) ≡ lastResponse r m
   unfolding lastResponse

@@ -1,6 +1,8 @@
-use Rattle.client_reply.specs.Lists.{lists}
+use Prim.Native.Nat.{_<_}
 use mathlib.Core.Path.{_∙_}
-use Rattle.client_reply.proofs.Laws.{aborted-is, response-is}
+use lib.ListN.{length}
+use Rattle.client_reply.specs.Lists.{lists}
+use Rattle.client_reply.proofs.Laws.{take-set-more, aborted-is, response-is}
 use borrow.Author.Needs.{needs}
 use Rattle.client_reply.proofs.decide.Statement.{statement}
 use Rattle.client_reply.proofs.decide.Tie as tie
@@ -11,26 +13,33 @@ sub-sort-to c = search needs
 sort-to-requires : tie.Need-sort-to-requires
 sort-to-requires c κs = search needs
 
-push-own-requires : tie.Need-push-own-requires
-push-own-requires c κs = search needs
+run-all-requires : tie.Need-run-all-requires
+run-all-requires c κs = search needs
+
+mul-own : tie.Need-mul-own
+mul-own c = search needs
+
+array-set-from-own : tie.Need-array-set-from-own
+array-set-from-own c = search needs
+
+add-conflict : tie.Need-add-conflict
+add-conflict c = search needs
 
 conflict-requires : tie.Need-conflict-requires
 conflict-requires c κs = search needs
-
-run-all-requires : tie.Need-run-all-requires
-run-all-requires c κs = search needs
 
 response-on-requires : tie.Need-response-on-requires
 response-on-requires c κs = search needs
 
 returns : tie.Need-returns
 returns c =
-    let a = c .before .before .before .before .before .before .before .before .before .before .before .before .args in
-    let e = c .before .before .before .before .before .before .before .before .before .before .before .before .pre .0 in
-    let s = c .before .before .before .before .before .before .before .sort-to in
-    let p = c .before .before .before .before .before .push-own in (
-      c .before .before .conflict .ensures ∙ aborted-is (a .r) (a .m .now) (a .n) e (lists (s .result)) (s .ensures .0) (lists (p .result)) (p .ensures .0),
-      c .response-on .ensures ∙ rw (c .before .run-all .ensures) (response-is (a .r) (a .m .now) (a .n) e (lists (s .result)) (s .ensures .0)),
+    let a = c .before .before .before .before .before .before .before .before .before .before .args in
+    let e = c .before .before .before .before .before .before .before .before .before .before .pre .0 in
+    let s = c .before .before .before .before .before .sort-to in
+    let h : s .result .m < length (s .result .own) = search needs in (
+      c .before .conflict .ensures
+          ∙ rw (take-set-more (s .result .own) (s .result .m) (a .r .current) h) (aborted-is (a .r) (a .m .now) (a .n) e (lists (s .result)) (s .ensures .0)),
+      c .response-on .ensures ∙ rw (c .before .before .run-all .ensures) (response-is (a .r) (a .m .now) (a .n) e (lists (s .result)) (s .ensures .0)),
     )
 
 pub decide-spec : {M : Type 1} → statement M
@@ -39,8 +48,10 @@ decide-spec =
     (tie.spec
     sub-sort-to
     sort-to-requires
-    push-own-requires
-    conflict-requires
     run-all-requires
+    mul-own
+    array-set-from-own
+    add-conflict
+    conflict-requires
     response-on-requires
     returns)
