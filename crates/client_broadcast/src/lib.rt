@@ -25,13 +25,12 @@ fn seq_ok(r: Replica, k: Commit) -> bool
 fn next_value(r: Replica, k: Commit) -> [u8; message::DIGEST_LENGTH]
     ensures { λ q. ⌜ q ≡ nextValue r k ⌝ }
 {
-    let chain = r.chain;
     let e = k.op;
     if r.held == 0 {
-        let v = replica::value_at(r.confirmed, 0, chain);
+        let v = replica::value_at(r.confirmed, 0, &r.chain);
         verify::link_value(v, e, k.seq, k.author)
     } else {
-        replica::value_at(r.confirmed, 1, chain)
+        replica::value_at(r.confirmed, 1, &r.chain)
     }
 }
 

@@ -15,46 +15,27 @@ use message::Item;
 use replica::Event;
 use replica::Replica;
 
-// The chain with the value of item `k` held.
-fn chain_item(
-    c: u32,
-    held: u32,
-    k: usize,
-    i: Item,
-    chain: [u8; replica::CHAIN_LENGTH],
-) -> [u8; replica::CHAIN_LENGTH]
+// The value of item `k` held in the chain, where it is not yet.
+fn chain_item(c: u32, held: u32, k: usize, i: Item, chain: &mut [u8; replica::CHAIN_LENGTH])
     requires { ⌜ (k < maxPending) × (c ≤ maxSeq) ⌝ }
-    ensures { λ r. ⌜ r ≡ chainItem c held k i chain ⌝ }
+    ensures { λ _. ⌜ now (chain .exit) ≡ chainItem c held k i (now (chain .entry)) ⌝ }
 {
-    if k < held as usize {
-        chain
-    } else {
+    if held as usize <= k {
         let v = client_reply_check::item_value(c, k, i, chain);
-        let mut t = chain;
-        slices::copy_to(&mut t, (k + 1) * message::DIGEST_LENGTH, &v);
-        t
+        slices::copy_to(chain, (k + 1) * message::DIGEST_LENGTH, &v);
     }
 }
 
-pub fn chain_to(
-    c: u32,
-    held: u32,
-    m: &[u8],
-    chain: [u8; replica::CHAIN_LENGTH],
-    n: usize,
-) -> [u8; replica::CHAIN_LENGTH]
+pub fn chain_to(c: u32, held: u32, m: &[u8], chain: &mut [u8; replica::CHAIN_LENGTH], n: usize)
     requires { ⌜ (n ≤ maxPending) × (c ≤ maxSeq) × (replyHead + n * itemLength ≤ length (now m)) ⌝ }
-    ensures { λ r. ⌜ r ≡ chainTo c held (now (m .entry)) chain n ⌝ }
+    ensures { λ _. ⌜ now (chain .exit) ≡ chainTo c held (now (m .entry)) (now (chain .entry)) n ⌝ }
 {
-    let mut t = chain;
     let mut k = 0;
     while k < n {
         let i = message::item_of(m, k);
-        let u = chain_item(c, held, k, i, t);
-        t = u;
+        chain_item(c, held, k, i, chain);
         k += 1;
     }
-    t
 }
 
 fn held_status(aborted: bool) -> u8
@@ -111,13 +92,13 @@ pub fn says(v: Verdict, seq: u32) -> Event
 pub fn write_own_commit(
     r: Replica,
     own: Keyed,
-    chain: [u8; replica::CHAIN_LENGTH],
+    chain: &[u8; replica::CHAIN_LENGTH],
     n: u8,
     aborted: bool,
     out: &mut [u8],
 )
     requires { ⌜ (n ≤ maxPending) × (r .confirmed ≤ maxSeq) × StateOf (r .keys) (r .number) own × (commitLength ≤ length (now out)) ⌝ }
-    ensures { λ _. ⌜ now (out .exit) ≡ commitMessage r chain n «aborted» ++ drop commitLength (now (out .entry)) ⌝ }
+    ensures { λ _. ⌜ now (out .exit) ≡ commitMessage r (now (chain .entry)) n «aborted» ++ drop commitLength (now (out .entry)) ⌝ }
 {
     let current = r.current;
     let seq = r.confirmed + n as u32;

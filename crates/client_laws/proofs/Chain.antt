@@ -17,13 +17,13 @@ use Rattle.operation.specs.Operation.{sameOp}
 use Rattle.message.specs.declared.Item.{Item}
 use Rattle.message.specs.Message.{replyCount, replyItem}
 use Rattle.verify.specs.Verify.{invokeTag, itemTagOk}
-use Rattle.verify.proofs.Laws.{link-length}
 use Rattle.replica.specs.declared.Replica.{Replica}
 use Rattle.replica.specs.Places.{valueAt, holdValue}
-use Rattle.replica.proofs.Places.{hold-length, value-put, value-kept}
+use Rattle.replica.proofs.Places.{value-put, value-kept}
 use Rattle.checks.specs.Checks.{firstNo}
 use Rattle.checks.proofs.Laws.{Yes, all-yes, first-append}
 use Rattle.client_reply.specs.Reply.{chainItem, chainTo, chainAfter}
+use Rattle.client_reply.proofs.Chain.{item-value-length, chain-length}
 use Rattle.client_reply_check.specs.ReplyChecks.{seqAt, itemValue, itemChainOk, itemChecks, itemsChecks, lastItem, replyNo}
 use Rattle.client_reply_check.proofs.Laws.{ItemAllowed, item-allowed, form-yes, reply-formed, items-passed, last-passed, last-yes}
 
@@ -65,10 +65,6 @@ items-yes r m (suc n) e k h =
 
 -- ---- an item's value
 module _ (c k : ℕ) (i : Item) where
-  pub item-value-length : (chain : List ℕ) → length (itemValue c k i chain) ≡ 32
-  unfolding itemValue
-  item-value-length chain = link-length (valueAt c k chain) (i .op) (seqAt c k) (i .author)
-
   -- it depends on the value before it only
   pub item-value-same : (s t : List ℕ) → valueAt c k s ≡ valueAt c k t → itemValue c k i s ≡ itemValue c k i t
   unfolding itemValue
@@ -91,21 +87,10 @@ module _ (c held : ℕ) (m chain : List ℕ) (l : length chain ≡ 1056) where
   unfolding chainTo chainItem
   new-item k h = rw (le-ltb _ _ h)
 
-  pub chain-length : (k : ℕ) → k ≤ 32 → length (to k) ≡ 1056
-  unfolding chainTo
-  chain-length zero h = l
-  chain-length (suc k) h =
-      let e : length (to k) ≡ 1056 = chain-length k (omega arith) in
-      let w : length (value k (to k)) ≡ 32 = item-value-length c k (replyItem m k) (to k) in
-      ⊎-elim
-      (λ (g : held ≤ k). ap length (new-item k g) ∙ hold-length c (k + 1) (value k (to k)) (to k) w e (omega arith))
-      (λ (g : k < held). ap length (held-item k g) ∙ e)
-      (le-or-lt held k)
-
   -- a value that is there stays
   step-kept : (j k : ℕ) → j ≤ k → k < 32 → valueAt c j (to (suc k)) ≡ valueAt c j (to k)
   step-kept j k g h =
-      let e : length (to k) ≡ 1056 = chain-length k (omega arith) in
+      let e : length (to k) ≡ 1056 = chain-length c held m chain l k (omega arith) in
       ⊎-elim
       (λ (q : held ≤ k).
       ap (valueAt c j) (new-item k q)
@@ -141,7 +126,7 @@ module _ (c held : ℕ) (m chain : List ℕ) (l : length chain ≡ 1056) where
   chain-links k n g h e =
       ⊎-elim
       (λ (q : held ≤ k).
-      let z : length (to k) ≡ 1056 = chain-length k (omega arith) in
+      let z : length (to k) ≡ 1056 = chain-length c held m chain l k (omega arith) in
       let w : length (value k (to k)) ≡ 32 = item-value-length c k (replyItem m k) (to k) in
       let s : to (k + 1) ≡ holdValue c (k + 1) (value k (to k)) (to k) = ap to (add-one k) ∙ new-item k q in
       chain-kept (k + 1) (k + 1) n (omega arith) (omega arith) h

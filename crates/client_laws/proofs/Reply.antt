@@ -19,7 +19,8 @@ use Rattle.replica.proofs.Laws.{ranged, in-range, Sized, Sound, stop-sound}
 use Rattle.client_reply.specs.Reply.{chainTo, chainAfter, isAborted, heldStatus, larger, repliedReplica, replySuccess, replyStep}
 use Rattle.client_reply_check.specs.ReplyChecks.{itemValue, replyNo}
 use Rattle.client_reply_check.proofs.Laws.{Formed, form-yes, reply-formed, last-passed, last-yes}
-use Rattle.client_laws.proofs.Chain.{le-or-lt, item-value-length, held-item, new-item, chain-length, item-taken}
+use Rattle.client_laws.proofs.Chain.{le-or-lt, held-item, new-item, item-taken}
+use Rattle.client_reply.proofs.Chain.{item-value-length, chain-length}
 
 -- ---- the fields after a reply, whatever the chain, the number of items and the verdict
 pub record Replied (r : Replica) (n : ℕ) (s : Replica) : Type 0 where

@@ -1,1 +1,2 @@
 pub mod ReplyChecks
+pub mod Parts

@@ -5,10 +5,11 @@ ghost use Rattle.operation.specs.Operation.{maxPending};
 ghost use Rattle.message.specs.Layout.{clientCount, maxSeq};
 ghost use Rattle.checks.specs.Checks.{firstNo};
 ghost use Rattle.client_reply_check.specs.ReplyChecks.{listedOk, itemValue, itemChainOk, itemProofChecks, itemChecks};
+ghost use Rattle.client_reply_check.specs.Parts.{withChain};
 ghost use Rattle.key_table.specs.KeyTable.{StateOf};
+ghost use Rattle.replica.specs.declared.Replica.{Replica};
 use hmac::Keyed;
 use message::Item;
-use replica::Replica;
 
 fn listed_ok(c: u32, k: usize, i: Item) -> bool
     requires { ⌜ k < maxPending ⌝ }
@@ -27,19 +28,19 @@ pub fn item_value(
     c: u32,
     k: usize,
     i: Item,
-    chain: [u8; replica::CHAIN_LENGTH],
+    chain: &[u8; replica::CHAIN_LENGTH],
 ) -> [u8; message::DIGEST_LENGTH]
     requires { ⌜ (k < maxPending) × (c ≤ maxSeq) ⌝ }
-    ensures { λ r. ⌜ r ≡ itemValue c k i chain ⌝ }
+    ensures { λ r. ⌜ r ≡ itemValue c k i (now (chain .entry)) ⌝ }
 {
     let e = i.op;
     let v = replica::value_at(c, k, chain);
     verify::link_value(v, e, c + (k as u32 + 1), i.author)
 }
 
-fn item_chain_ok(c: u32, held: u32, chain: [u8; replica::CHAIN_LENGTH], k: usize, i: Item) -> bool
+fn item_chain_ok(c: u32, held: u32, chain: &[u8; replica::CHAIN_LENGTH], k: usize, i: Item) -> bool
     requires { ⌜ (k < maxPending) × (c ≤ maxSeq) ⌝ }
-    ensures { λ r. ⌜ r ≡ itemChainOk c held chain k i ⌝ }
+    ensures { λ r. ⌜ r ≡ itemChainOk c held (now (chain .entry)) k i ⌝ }
 {
     if k < held as usize {
         let v = item_value(c, k, i, chain);
@@ -51,35 +52,60 @@ fn item_chain_ok(c: u32, held: u32, chain: [u8; replica::CHAIN_LENGTH], k: usize
 }
 
 // Tag and chain of item `k`, once its content is allowed; its author's tags start from `s`.
-fn item_proof(r: Replica, k: usize, i: Item, s: Keyed) -> u8
-    requires { ⌜ (k < maxPending) × (r .confirmed ≤ maxSeq) × StateOf (r .keys) (i .author) s ⌝ }
-    ensures { λ q. ⌜ q ≡ firstNo 0 (itemProofChecks r k i) ⌝ }
+fn item_proof(
+    c: u32,
+    held: u32,
+    chain: &[u8; replica::CHAIN_LENGTH],
+    k: usize,
+    i: Item,
+    s: Keyed,
+) -> u8
+    requires { ⌜ (k < maxPending) × (c ≤ maxSeq) ⌝ }
+    ensures { λ q. ⌜ ((r : Replica) → StateOf (r .keys) (i .author) s → q ≡ firstNo 0 (itemProofChecks (withChain r c held (now (chain .entry))) k i)) ⌝ }
 {
-    let chain = r.chain;
     let q = checks::also(0, verify::item_tag_ok(s, i), 22);
-    checks::also(q, item_chain_ok(r.confirmed, r.held, chain, k, i), 23)
+    checks::also(q, item_chain_ok(c, held, chain, k, i), 23)
 }
 
 // The checks of item `k` of `n`.
-fn item_check(r: Replica, n: usize, k: usize, i: Item, s: Keyed) -> u8
-    requires { ⌜ (k < maxPending) × (r .confirmed ≤ maxSeq) × (1 ≤ i .author → i .author ≤ clientCount → StateOf (r .keys) (i .author) s) ⌝ }
-    ensures { λ q. ⌜ q ≡ firstNo 0 (itemChecks r n k i) ⌝ }
+fn item_check(
+    c: u32,
+    held: u32,
+    chain: &[u8; replica::CHAIN_LENGTH],
+    n: usize,
+    k: usize,
+    i: Item,
+    s: Keyed,
+) -> u8
+    requires { ⌜ (k < maxPending) × (c ≤ maxSeq) ⌝ }
+    ensures { λ q. ⌜ ((r : Replica) → (1 ≤ i .author → i .author ≤ clientCount → StateOf (r .keys) (i .author) s)
+        → q ≡ firstNo 0 (itemChecks (withChain r c held (now (chain .entry))) n k i)) ⌝ }
 {
-    if listed_ok(r.confirmed, k, i) {
-        item_proof(r, k, i, s)
+    if listed_ok(c, k, i) {
+        item_proof(c, held, chain, k, i, s)
     } else {
         21
     }
 }
 
 // The first no so far, else that of item `k`.
-pub fn item_also(so_far: u8, r: Replica, n: usize, k: usize, i: Item, s: Keyed) -> u8
-    requires { ⌜ (k < maxPending) × (r .confirmed ≤ maxSeq) × (1 ≤ i .author → i .author ≤ clientCount → StateOf (r .keys) (i .author) s) ⌝ }
-    ensures { λ q. ⌜ q ≡ firstNo «so_far» (itemChecks r n k i) ⌝ }
+pub fn item_also(
+    so_far: u8,
+    c: u32,
+    held: u32,
+    chain: &[u8; replica::CHAIN_LENGTH],
+    n: usize,
+    k: usize,
+    i: Item,
+    s: Keyed,
+) -> u8
+    requires { ⌜ (k < maxPending) × (c ≤ maxSeq) ⌝ }
+    ensures { λ q. ⌜ ((r : Replica) → (1 ≤ i .author → i .author ≤ clientCount → StateOf (r .keys) (i .author) s)
+        → q ≡ firstNo «so_far» (itemChecks (withChain r c held (now (chain .entry))) n k i)) ⌝ }
 {
     if so_far != 0 {
         so_far
     } else {
-        item_check(r, n, k, i, s)
+        item_check(c, held, chain, n, k, i, s)
     }
 }

@@ -9,6 +9,7 @@ ghost use Rattle.checks.specs.Checks.{firstNo};
 ghost use Rattle.client_reply_check.specs.ReplyChecks.{itemsChecks, lastOk, markChecks, replyFormChecks, replyNo};
 ghost use Rattle.key_table.specs.KeyTable.{StateOf};
 use hmac::Keyed;
+use key_table::Entry;
 use replica::Replica;
 
 // The first no, and what tags by the client's own key start from where there is none.
@@ -40,15 +41,21 @@ fn items_check(r: Replica, m: &[u8], n: usize) -> Checked
     let mut k = 0;
     while k < n {
         let i = message::item_of(m, k);
-        let s = key_table::state_of(t, keys, i.author);
-        let u = key_table::with_state(t, i.author, s);
-        t = u;
-        q = client_reply_check::item_also(q, r, n, k, i, s);
+        let at = key_table::slot(i.author);
+        let e = t[at];
+        let s = key_table::state_of(e, keys, i.author);
+        t[at] = Entry {
+            known: true,
+            state: s,
+        };
+        q = client_reply_check::item_also(q, r.confirmed, r.held, &r.chain, n, k, i, s);
         k += 1;
     }
+    let at = key_table::slot(r.number);
+    let e = t[at];
     Checked {
         no: q,
-        own: key_table::state_of(t, keys, r.number),
+        own: key_table::state_of(e, keys, r.number),
     }
 }
 

@@ -19,11 +19,11 @@ pub fn reply(r: Replica, m: &[u8], out: &mut [u8]) -> Stepped
         return replica::stopped(r, no);
     }
     let n = m[message::COUNT_OFFSET];
-    let old = r.chain;
+    let mut chain = r.chain;
     let v = client_reply::decide(r, m, n as usize);
-    let chain = client_commit::chain_to(r.confirmed, r.held, m, old, n as usize);
+    client_commit::chain_to(r.confirmed, r.held, m, &mut chain, n as usize);
     let own = q.own;
-    client_commit::write_own_commit(r, own, chain, n, v.aborted, out);
+    client_commit::write_own_commit(r, own, &chain, n, v.aborted, out);
     let after = client_commit::replied_replica(r, chain, n, v.aborted);
     Stepped {
         replica: after,

@@ -1,19 +1,20 @@
 -- Laws of tables: with nothing known, and with one entry more. Assumes nothing.
-use Prim.Native.Nat.{ℕ, zero, suc, _<_, _≤_}
+use Prim.Native.Nat.{ℕ, zero, suc, _≤_}
 use mathlib.Core.Path.{_≡_, refl, sym, ap, _∙_}
-use mathlib.Core.List.{List}
-use mathlib.Core.Bool.{Bool, true, false, _&&_, true≢false}
+use mathlib.Core.List.{List, [], _∷_}
+use mathlib.Core.Bool.{Bool, true, false, _&&_, cond, true≢false}
 use native.Mathlib.Decide.{ℕ-discrete}
 use lib.Dec.{leb}
-use lib.ListN.{length, getD, set, replicate}
-use lib.Seq.{getD-set-same, getD-set-other}
+use lib.ListN.{getD, set, replicate}
+use lib.Seq.{getD-set-other}
+use native.Mathlib.Omega.{arith}
 use borrow.Author.Tests.{leb-true, le-leb}
 use Rattle.slices.proofs.Laws.{and-yes}
 use Rattle.hmac.specs.declared.Keyed.{Keyed}
 use Rattle.hmac.specs.Keyed.{keyedOf}
 use Rattle.verify.specs.Verify.{keyOf}
 use Rattle.key_table.specs.declared.Entry.{Entry}
-use Rattle.key_table.specs.KeyTable.{noEntry, StateOf, Right}
+use Rattle.key_table.specs.KeyTable.{noEntry, StateOf, slotOf, Right}
 
 unknown : (e : Entry) → e .known ≡ false → (m n : ℕ) → getD (replicate m e) n noEntry .known ≡ false
 unknown e h zero n = refl
@@ -21,20 +22,44 @@ unknown e h (suc m) zero = h
 unknown e h (suc m) (suc n) = unknown e h m n
 
 pub none-right : (keys : List ℕ) (e : Entry) → e .known ≡ false → Right keys (replicate 9 e)
-none-right keys e h = record { each = λ n k. absurd (true≢false (sym k ∙ unknown e h 9 n)) }
+none-right keys e h = record { each = λ n k. absurd (true≢false (sym k ∙ unknown e h 9 (slotOf n))) }
 
-pub one-more : (keys : List ℕ) (t : List Entry) (n : ℕ) (s : Keyed) → n < length t → Right keys t → StateOf keys n s
-    → Right keys (set t n (record { known = true; state = s }))
-one-more keys t n s h r e = record { each = λ m. go m (ℕ-discrete m n) }
+-- ---- the place of an entry
+abbrev slotBy : Bool → ℕ → ℕ
+slotBy b n = cond b n 0
+
+slot-own : (n : ℕ) → n ≤ 8 → slotOf n ≡ n
+slot-own n h = rw (le-leb n 8 h)
+
+slot-same : (m n : ℕ) → 1 ≤ m → m ≡ slotOf n → n ≡ m
+slot-same m n a = go (leb n 8)
+  where
+    go : (b : Bool) → m ≡ slotBy b n → n ≡ m
+    go true p = sym p
+    go false p = omega (arith, a, p)
+
+-- an entry just set, where the table has it
+set-known : (t : List Entry) (i : ℕ) (e : Entry) → getD (set t i e) i noEntry .known ≡ true → getD (set t i e) i noEntry ≡ e
+set-known [] i e k = absurd (true≢false (sym k))
+set-known (x ∷ xs) zero e k = refl
+set-known (x ∷ xs) (suc i) e k = set-known xs i e k
+
+pub one-more : (keys : List ℕ) (t : List Entry) (n : ℕ) (s : Keyed) → Right keys t → (1 ≤ n → n ≤ 8 → StateOf keys n s)
+    → Right keys (set t (slotOf n) (record { known = true; state = s }))
+one-more keys t n s r e = record { each = λ m. go m (ℕ-discrete (slotOf m) (slotOf n)) }
   where
     new : Entry
     new = record { known = true; state = s }
 
-    go : (m : ℕ) → Dec (m ≡ n) → getD (set t n new) m noEntry .known ≡ true → StateOf keys m (getD (set t n new) m noEntry .state)
-    go m (yes p) k = rw (p, getD-set-same t n new noEntry h) e
-    go m (no q) k =
-        let x : getD (set t n new) m noEntry ≡ getD t m noEntry = getD-set-other t n m new noEntry q in
-        rw x (r .each m (rw (sym x) k))
+    go : (m : ℕ) → Dec (slotOf m ≡ slotOf n) → getD (set t (slotOf n) new) (slotOf m) noEntry .known ≡ true → 1 ≤ m → m ≤ 8
+        → StateOf keys m (getD (set t (slotOf n) new) (slotOf m) noEntry .state)
+    go m (yes p) k a b =
+        let i : n ≡ m = slot-same m n a (sym (slot-own m b) ∙ p) in
+        let x : getD (set t (slotOf n) new) (slotOf m) noEntry ≡ new = rw p (set-known t (slotOf n) new (rw p at k)) in
+        rw (x, ← i) (e (omega (arith, i, a)) (omega (arith, i, b)))
+    go m (no q) k a b =
+        let x : getD (set t (slotOf n) new) (slotOf m) noEntry ≡ getD t (slotOf m) noEntry = getD-set-other t (slotOf n) (slotOf m) new noEntry q in
+        rw x (r .each m (rw (sym x) k) a b)
 
 -- what the code's test says of a client's number
 pub number-yes : (n : ℕ) → (leb 1 n && leb n 8) ≡ true → (1 ≤ n) × (n ≤ 8)

@@ -2,11 +2,13 @@
 use Prim.Native.Nat.{ℕ, _≤_}
 use mathlib.Core.Path.{_≡_}
 use mathlib.Core.List.{List}
-use mathlib.Core.Bool.{true, false}
-use lib.ListN.{length, getD}
+use mathlib.Core.Bool.{true, false, cond}
+use lib.Dec.{leb}
+use lib.ListN.{getD}
 use Rattle.sha256_core.specs.declared.State.{State}
 use Rattle.hmac.specs.declared.Keyed.{Keyed}
 use Rattle.hmac.specs.Keyed.{keyedOf}
+use Rattle.message.specs.Layout.{clientCount}
 use Rattle.verify.specs.Verify.{keyOf}
 use Rattle.key_table.specs.declared.Entry.{Entry}
 
@@ -21,6 +23,10 @@ noEntry = record { known = false; state = record { inner = zeroState; outer = ze
 abbrev pub StateOf : List ℕ → ℕ → Keyed → Type 0
 StateOf keys n s = s ≡ keyedOf (keyOf keys n)
 
--- each entry that is known is its client's
+-- the place of a client's entry
+abbrev pub slotOf : ℕ → ℕ
+slotOf n = cond (leb n clientCount) n 0
+
+-- each client's entry that is known is that client's
 pub record Right (keys : List ℕ) (t : List Entry) : Type 0 where
-  pub each : (n : ℕ) → getD t n noEntry .known ≡ true → StateOf keys n (getD t n noEntry .state)
+  pub each : (n : ℕ) → getD t (slotOf n) noEntry .known ≡ true → 1 ≤ n → n ≤ clientCount → StateOf keys n (getD t (slotOf n) noEntry .state)

@@ -3,13 +3,12 @@ ghost use mathlib.Core.Path.{_≡_};
 ghost use mathlib.Core.List.{List};
 ghost use mathlib.Core.Bool.{true};
 ghost use Prim.Native.Nat.{ℕ, _<_, _≤_};
-ghost use lib.ListN.{set};
 ghost use Rattle.message.specs.Layout.{clientCount};
-ghost use Rattle.key_table.specs.KeyTable.{Right, StateOf};
+ghost use Rattle.key_table.specs.KeyTable.{Right, StateOf, slotOf};
 use hmac::Keyed;
 use sha256_core::State;
 
-// Client k's entry is entry k of the table; entry 0 is not used.
+// Client k's entry is entry k of the table; entry 0 is no client's.
 pub struct Entry {
     pub known: bool,
     pub state: Keyed,
@@ -47,49 +46,36 @@ pub fn none() -> [Entry; 9]
     [e; 9]
 }
 
-// An entry's state where it is known, else worked out.
-fn known_or(e: Entry, keys: [u8; message::KEYS_LENGTH], client: u8) -> Keyed
-    requires { ⌜ (1 ≤ client) × (client ≤ clientCount) × (e .known ≡ true → StateOf keys client (e .state)) ⌝ }
-    ensures { λ r. ⌜ StateOf keys client r ⌝ }
+// The place of a client's entry; that of no client for another number.
+pub fn slot(client: u8) -> usize
+    ensures { λ r. ⌜ (r ≡ slotOf client) × (r < 9) ⌝ }
 {
-    if e.known {
-        e.state
+    if client <= message::CLIENTS {
+        client as usize
     } else {
-        verify::key_state(keys, client)
+        0
     }
 }
 
-// A client's state, from the table where it is known; no key's for another number.
-pub fn state_of(t: [Entry; 9], keys: [u8; message::KEYS_LENGTH], client: u8) -> Keyed
-    requires { ⌜ Right keys t ⌝ }
+// A client's state, worked out; no key's for another number.
+fn worked_out(keys: [u8; message::KEYS_LENGTH], client: u8) -> Keyed
     ensures { λ r. ⌜ (1 ≤ client → client ≤ clientCount → StateOf keys client r) ⌝ }
 {
     if (1 <= client) & (client <= message::CLIENTS) {
-        let at = client as usize;
-        let e = t[at];
-        known_or(e, keys, client)
+        verify::key_state(keys, client)
     } else {
         no_key()
     }
 }
 
-fn with_entry(t: [Entry; 9], at: usize, e: Entry) -> [Entry; 9]
-    requires { ⌜ at < 9 ⌝ }
-    ensures { λ r. ⌜ r ≡ set t at e ⌝ }
+// A client's state, from its entry where it is known, else worked out.
+pub fn state_of(e: Entry, keys: [u8; message::KEYS_LENGTH], client: u8) -> Keyed
+    requires { ⌜ (e .known ≡ true → 1 ≤ client → client ≤ clientCount → StateOf keys client (e .state)) ⌝ }
+    ensures { λ r. ⌜ (1 ≤ client → client ≤ clientCount → StateOf keys client r) ⌝ }
 {
-    let mut u = t;
-    u[at] = e;
-    u
-}
-
-// The table with a client's state known.
-pub fn with_state(t: [Entry; 9], client: u8, state: Keyed) -> [Entry; 9]
-    ensures { λ r. ⌜ ((keys : List ℕ) → Right keys t → (1 ≤ client → client ≤ clientCount → StateOf keys client state) → Right keys r) ⌝ }
-{
-    if (1 <= client) & (client <= message::CLIENTS) {
-        let e = Entry { known: true, state };
-        with_entry(t, client as usize, e)
+    if e.known {
+        e.state
     } else {
-        t
+        worked_out(keys, client)
     }
 }

@@ -75,11 +75,11 @@ pub struct Stepped {
 }
 
 // The chain value at place `c` + `k`, where `c` is the last confirmed one.
-pub fn value_at(c: u32, k: usize, chain: [u8; CHAIN_LENGTH]) -> [u8; message::DIGEST_LENGTH]
+pub fn value_at(c: u32, k: usize, chain: &[u8; CHAIN_LENGTH]) -> [u8; message::DIGEST_LENGTH]
     requires { ⌜ k ≤ maxPending ⌝ }
-    ensures { λ r. ⌜ r ≡ valueAt c k chain ⌝ }
+    ensures { λ r. ⌜ r ≡ valueAt c k (now (chain .entry)) ⌝ }
 {
-    slices::part(&chain, k * message::DIGEST_LENGTH)
+    slices::part(chain, k * message::DIGEST_LENGTH)
 }
 
 // Whether there is no current operation.

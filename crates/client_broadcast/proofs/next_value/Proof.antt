@@ -15,11 +15,11 @@ value-at-requires-2 c κs = search needs
 
 returns : tie.Need-returns
 unfolding nextValue
-returns c = rw (eq-eqb _ _ (c .before .before .if1 .taken), c .link-value .ensures, c .before .value-at .ensures)
+returns c = rw (eq-eqb _ _ (c .before .before .before .before .if1 .taken), c .link-value .ensures, c .before .value-at .ensures)
 
 returns-2 : tie.Need-returns-2
 unfolding nextValue
-returns-2 c = rw (ne-eqb _ _ (c .before .if1 .left), c .value-at2 .ensures)
+returns-2 c = rw (ne-eqb _ _ (c .before .before .before .if1 .left), c .value-at2 .ensures)
 
 pub next-value-spec : {M : Type 1} → statement M
 next-value-spec =

@@ -8,10 +8,10 @@ use Rattle.client_commit.proofs.chain_to.Statement.{statement}
 use Rattle.client_commit.proofs.chain_to.Tie as tie
 
 abbrev Inv-loop : tie.InvT-loop
-Inv-loop c held m n t₀ k₀ t k = (t ≡ chainTo c held m t₀ k) × (k ≤ n)
+Inv-loop c held m chain₀ n k₀ chain k = (chain ≡ chainTo c held m chain₀ k) × (k ≤ n)
 
 abbrev μ-loop : tie.MeasureT-loop
-μ-loop c held m n t₀ k₀ t k = n - k
+μ-loop c held m chain₀ n k₀ chain k = n - k
 
 loop-holds : tie.Need-loop-holds Inv-loop μ-loop
 unfolding chainTo
@@ -31,7 +31,7 @@ loop-less c = search needs
 
 loop-again : tie.Need-loop-again Inv-loop μ-loop
 unfolding chainTo
-loop-again c = (c .chain-item .ensures ∙ rw (add-one, c .before .before .before .loop .inv .0, c .before .item-of .ensures), search needs)
+loop-again c = (c .chain-item .ensures ∙ rw (add-one, c .before .before .before .before .loop .inv .0, c .before .before .item-of .ensures), search needs)
 
 returns : tie.Need-returns Inv-loop μ-loop
 returns c = let e : c .before .loop .k ≡ c .before .before .before .args .n = omega arith in c .before .loop .inv .0 ∙ rw e

@@ -15,7 +15,7 @@ also-requires-2 : tie.Need-also-requires-2
 also-requires-2 c κs = search needs
 
 returns : tie.Need-returns
-returns c = rw (c .also2 .ensures, c .before .item-chain-ok .ensures, c .before .before .also .ensures, c .before .before .before .item-tag-ok .ensures _ (c .before .before .before .before .before .pre .2))
+returns c r h = rw (c .also2 .ensures, c .before .item-chain-ok .ensures, c .before .before .also .ensures, c .before .before .before .item-tag-ok .ensures (r .keys) h)
 
 pub item-proof-spec : {M : Type 1} → statement M
 item-proof-spec =

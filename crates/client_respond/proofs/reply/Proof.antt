@@ -1,6 +1,7 @@
 use Rattle.client_reply.specs.Reply.{chainAfter}
 use Rattle.client_reply_check.specs.ReplyChecks.{replyNo}
 use mathlib.Core.Path.{_≡_, refl, sym, _∙_}
+use Rattle.client_reply.proofs.Chain.{chain-length}
 use Rattle.client_reply.proofs.Laws.{reply-stops, reply-goes, commit-message-length}
 use Rattle.client_reply_check.proofs.Laws.{Formed, form-yes, reply-stop, reply-formed, last-passed, last-yes}
 use native.Mathlib.Omega.{arith}
@@ -27,9 +28,15 @@ yes c = form-yes _ _ _ (reply-formed _ _ _ (passed c))
 some : (c : tie.Else1) → 1 ≤ getD (c .before .before .before .before .args .m .now) 2 0
 some c = last-yes _ _ (last-passed _ _ _ (passed c)) .some
 
-chained : (c : tie.After-says) → let a = c .before .before .before .before .before .before .before .before .before .before .before .before .before .before .before .before .args in c .before .before .before .before .before .before .before .before .chain-to .result ≡ chainAfter (a .r) (a .m .now)
+chained : (c : tie.After-says) → let a = c .before .before .before .before .before .before .before .before .before .before .before .before .before .before .before .before .before .before .args in c .before .before .before .before .before .before .before .before .before .chain-to .last .1 .1 .1 .0 ≡ chainAfter (a .r) (a .m .now)
 unfolding chainAfter
-chained c = c .before .before .before .before .before .before .before .before .chain-to .ensures
+chained c = c .before .before .before .before .before .before .before .before .before .chain-to .ensures
+
+old-size : (c : tie.Else1) → length (c .before .before .before .before .args .r .chain) ≡ 1056
+old-size c = search needs
+
+size : (c : tie.After-chain-to) → length (c .chain-to .last .1 .1 .1 .0) ≡ 1056
+size c = let k = c .before .before .before .before .before in rw (c .chain-to .ensures) (chain-length _ _ _ _ (old-size k) _ (yes k .few))
 
 reply-check-requires : tie.Need-reply-check-requires
 reply-check-requires c κs = search needs
@@ -47,25 +54,25 @@ decide-requires : tie.Need-decide-requires
 decide-requires c κs = let y = yes (c .before .before) in (refl, some (c .before .before), y .few, omega (arith, y .long))
 
 cast-chain-to : tie.Need-cast-chain-to
-cast-chain-to c = omega (arith, c .before .before .shared-slice-known2 .given 2)
+cast-chain-to c = omega (arith, c .before .before .before .shared-slice-known2 .given 2)
 
 chain-to-requires : tie.Need-chain-to-requires
-chain-to-requires c κs = let y = yes (c .before .before .before) in (y .few, y .early, omega (arith, y .long))
+chain-to-requires c κs = let y = yes (c .before .before .before .before) in (y .few, y .early, omega (arith, y .long))
 
 write-own-commit-requires : tie.Need-write-own-commit-requires
 write-own-commit-requires c κs =
-    let k = c .before .before .before .before .before .before in
+    let k = c .before .before .before .before .before .before .before .before in
     let y = yes k in
     (y .few, y .early, k .before .reply-check .ensures .1 (k .if1 .left), y .enough)
 
 replied-replica-requires : tie.Need-replied-replica-requires
-replied-replica-requires c κs = (some (c .before .before .before .before .before .before .before .before .before), yes (c .before .before .before .before .before .before .before .before .before) .few)
+replied-replica-requires c κs = let k = c .before .before .before .before .before .before .before .before .before .before .before in (some k, yes k .few)
 
 cast-says : tie.Need-cast-says
-cast-says c = omega (arith, c .before .before .before .before .before .before .before .before .before .shared-slice-known2 .given 2)
+cast-says c = omega (arith, c .before .before .before .before .before .before .before .before .before .before .before .shared-slice-known2 .given 2)
 
 add-says : tie.Need-add-says
-add-says c = let y = yes (c .before .before .before .before .before .before .before .before .before .before .before) in record { fits = omega (arith, y .few, y .early) }
+add-says c = let y = yes (c .before .before .before .before .before .before .before .before .before .before .before .before .before) in record { fits = omega (arith, y .few, y .early) }
 
 says-requires : tie.Need-says-requires
 says-requires c κs = search needs
@@ -81,16 +88,14 @@ same-length c = search needs
 
 returns-2 : tie.Need-returns-2
 returns-2 c =
-    let a = c .before .before .before .before .before .before .before .before .before .before .before .before .before .before .before .before .args in
-    let k = c .before .before .before .before .before .before .before .before .before .before .before .before in
-    let v = c .before .before .before .before .before .before .before .before .before .decide .ensures in
-    let t = c .before .before .before .before .before .before .before .before .chain-to .result in
+    let a = c .before .before .before .before .before .before .before .before .before .before .before .before .before .before .before .before .before .before .args in
+    let k = c .before .before .before .before .before .before .before .before .before .before .before .before .before .before in
+    let v = c .before .before .before .before .before .before .before .before .before .before .before .decide in
+    let t = c .before .before .before .before .before .before .before .before .before .chain-to .last .1 .1 .1 .0 in
     let n = getD (a .m .now) 2 0 in
     let f : n ≤ 32 = yes k .few in
-    let o = c .before .before .before .before .before .before .before .before .chain-to .ok in
-    let h : length t ≡ 1056 = search (needs, o) in
-    let w = commit-message-length (a .r) t n (c .before .before .before .before .before .before .before .before .before .decide .result .aborted) (value-length (a .r .confirmed) n t h f) in
-    let l = reply-goes (a .r) (a .m .now) (a .out .now) (passed k) t _ _ (chained c) (v .0) (v .1) w in
+    let w = commit-message-length (a .r) t n (v .result .aborted) (value-length (a .r .confirmed) n t (size (c .before .before .before .before .before .before .before .before .before)) f) in
+    let l = reply-goes (a .r) (a .m .now) (a .out .now) (passed k) t _ _ (chained c) (v .ensures .0) (v .ensures .1) w in
     (rw (c .before .before .replied-replica .ensures, c .says .ensures) (l .0), c .before .before .before .before .before .write-own-commit .ensures ∙ l .1)
 
 pub reply-spec : {M : Type 1} → statement M

@@ -3,9 +3,6 @@ use borrow.Author.Needs.{needs}
 use Rattle.replica.proofs.value_at.Statement.{statement}
 use Rattle.replica.proofs.value_at.Tie as tie
 
-slice-aggregate-part : tie.Need-slice-aggregate-part
-slice-aggregate-part c = search needs
-
 mul-part : tie.Need-mul-part
 mul-part c = search needs
 
@@ -17,4 +14,4 @@ unfolding digestAt
 returns c = rw (c .part .ensures)
 
 pub value-at-spec : {M : Type 1} → statement M
-value-at-spec = tie.close (tie.spec slice-aggregate-part mul-part part-requires returns)
+value-at-spec = tie.close (tie.spec mul-part part-requires returns)
