@@ -1,5 +1,6 @@
 use Rattle.client_reply.specs.Reply.{chainItem}
 use mathlib.Core.Path.{_∙_}
+use native.Mathlib.Omega.{arith}
 use borrow.Author.Tests.{lt-ltb, le-ltb}
 use borrow.Author.Needs.{needs}
 use Rattle.client_commit.proofs.chain_item.Statement.{statement}
@@ -22,11 +23,13 @@ copy-to-requires c κs = search needs
 
 returns : tie.Need-returns
 unfolding chainItem
-returns c = rw (le-ltb _ _ (c .before .before .before .before .before .if1 .taken)) (c .copy-to .ensures ∙ rw (c .before .before .before .item-value .ensures))
+returns c =
+    let a = c .before .before .before .before .before .before .args in
+    rw (le-ltb (a .k) (a .held) (omega (arith, c .before .before .before .before .before .if1 .taken))) (c .copy-to .ensures ∙ rw (c .before .before .before .item-value .ensures))
 
 returns-2 : tie.Need-returns-2
 unfolding chainItem
-returns-2 c = rw (lt-ltb _ _ (c .if1 .left))
+returns-2 c = let a = c .before .args in rw (lt-ltb (a .k) (a .held) (omega (arith, c .if1 .left)))
 
 pub chain-item-spec : {M : Type 1} → statement M
 chain-item-spec =
