@@ -1,8 +1,8 @@
 // The trial program of document 01: lines from standard input to its end, and a line for each on standard output. What is printed for
 // which line is the contract of `trial_lines::answers`; what is held of a line that is not yet whole, and of one that is over-long, that
 // of `trial_bytes::keep`. Here is only the loop that reads and prints. Proved of it: it is safe and ends, every whole line of a buffer is
-// answered from where the one before left trial and lent bytes, and has its number, below 2^64 (specs/Whole.antt), and an over-long line
-// is of another form (proofs/OverLong.antt).
+// answered from where the one before left trial and lent bytes, and has its number, below 2^64 (specs/Whole.antt), the bytes of a line are
+// those of its word in trial_laws (proofs/Printed.antt), and an over-long line is of another form (proofs/OverLong.antt).
 use trial_core::Trial;
 ghost use Prim.Native.Nat.{_+_, _≤_, _<_, _^_};
 ghost use lib.ListN.{length};
