@@ -10,7 +10,7 @@ use Rattle.trial_print.specs.Line.{lineBytes}
 use Rattle.trial_core.specs.declared.Trial.{Trial}
 use Rattle.trial_core.specs.Trial.{Lent, LineStep, lineStep}
 use Rattle.trial_answer.specs.declared.Line.{Line}
-use Rattle.trial_answer.specs.Answer.{Said}
+use Rattle.trial_answer.specs.Answer.{LineAnswered}
 
 pub said-of :
     (t : Trial) (n : ℕ) (b : Lent) (a : Asked) (out : List ℕ) (at : ℕ) (r : Line) (b′ : Lent) (out′ : List ℕ) (v : ℕ) (x : Word) →
@@ -18,7 +18,7 @@ pub said-of :
     r .filled ≡ at + length (lineBytes n v x) →
     out′ ≡ put out at (lineBytes n v x) →
     r .filled ≤ at + 64 →
-    Said t n b a out at r b′ out′
+    LineAnswered t n b a out at r b′ out′
 said-of t n b a out at r b′ out′ v x e f g h =
     let l : lineBytes n v x ≡ lineBytes n (lineStep t b a .van) (lineStep t b a .word) = ap (λ (s : LineStep). lineBytes n (s .van) (s .word)) e in
     record {

@@ -11,7 +11,7 @@ use Rattle.trial_core.specs.Trial.{Lent, lineStep}
 use Rattle.trial_answer.specs.declared.Line.{Line}
 
 -- a command was answered, as line n, into `out` from `at` on
-pub record Said (t : Trial) (n : ℕ) (b : Lent) (a : Asked) (out : List ℕ) (at : ℕ) (r : Line) (b′ : Lent) (out′ : List ℕ) : Type 0 where
+pub record LineAnswered (t : Trial) (n : ℕ) (b : Lent) (a : Asked) (out : List ℕ) (at : ℕ) (r : Line) (b′ : Lent) (out′ : List ℕ) : Type 0 where
   pub trial : r .trial ≡ lineStep t b a .trial
   pub lent : b′ ≡ lineStep t b a .lent
   pub place : r .filled ≡ at + length (lineBytes n (lineStep t b a .van) (lineStep t b a .word))

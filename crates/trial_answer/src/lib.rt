@@ -5,7 +5,7 @@ ghost use Prim.Native.Nat.{_+_, _≤_};
 ghost use lib.ListN.{length};
 ghost use Rattle.trial_words.specs.Words.{asked};
 ghost use Rattle.trial_core.specs.Moves.{lentOf};
-ghost use Rattle.trial_answer.specs.Answer.{Said};
+ghost use Rattle.trial_answer.specs.Answer.{LineAnswered};
 
 // After one line: the trial, and the place after what was written.
 pub struct Line {
@@ -25,7 +25,7 @@ pub fn answer(
     invokes: &mut [u8; trial_core::INVOKES_LENGTH],
 ) -> Line
     requires { ⌜ at + 64 ≤ length (now out) ⌝ }
-    ensures { λ r. ⌜ Said trial number (lentOf (now (log .entry)) (now (replies .entry)) (now (invokes .entry))) (asked command) (now (out .entry)) at
+    ensures { λ r. ⌜ LineAnswered trial number (lentOf (now (log .entry)) (now (replies .entry)) (now (invokes .entry))) (asked command) (now (out .entry)) at
         r (lentOf (now (log .exit)) (now (replies .exit)) (now (invokes .exit))) (now (out .exit)) ⌝ }
 {
     let r = trial_step::step(trial, command, log, replies, invokes);

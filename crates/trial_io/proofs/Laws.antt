@@ -1,11 +1,13 @@
 -- The whole lines of a buffer, call by call of `answers`. Assumes nothing.
 use Prim.Native.Nat.{ℕ, zero, suc, _+_, _-_, _≤_}
-use mathlib.Core.Path.{_≡_, sym, ap, _∙_}
-use mathlib.Core.List.{List, [], _∷_, _++_, append-assoc}
+use mathlib.Core.Path.{_≡_, refl, sym, ap, _∙_}
+use mathlib.Core.List.{List, [], _∷_, _++_, append-nil, append-assoc}
 use mathlib.Core.Logic.{_⊎_, inl, inr}
 use native.Mathlib.Omega.{arith}
-use lib.ListN.{length, take, drop, length-append, length-take}
+use lib.ListN.{length, take, drop, length-take}
 use lib.Seq.{drop-drop, take-nil}
+use Rattle.trial_words.specs.Words.{Asked}
+use Rattle.trial_parse.specs.Parse.{parse}
 use Rattle.trial_core.specs.declared.Trial.{Trial}
 use Rattle.trial_core.specs.Trial.{Lent}
 use Rattle.trial_bytes.specs.Held.{Keeps}
@@ -28,27 +30,46 @@ part-drop s at used n =
     let e : n - at - used ≡ n - (at + used) = omega arith in
     drop-take used (n - at) (drop at s) ∙ rw (e, drop-drop used at s)
 
-run-number : (w : Run) (ls : List (List ℕ)) → runLines w ls .number ≡ w .number + length ls
-unfolding runLines nextRun
-run-number w [] = omega arith
-run-number w (l ∷ ls) = run-number _ ls ∙ omega arith
+-- lines, and more lines after them
+run-append : (w : Run) (xs ys : List (List ℕ)) → runLines w (xs ++ ys) ≡ runLines (runLines w xs) ys
+unfolding runLines
+run-append w [] ys = refl
+run-append w (l ∷ xs) ys = run-append (nextRun w (parse l)) xs ys
+
+-- a run with p printed before it
+abbrev behind : List ℕ → Run → Run
+behind p w = record { trial = w .trial; lent = w .lent; number = w .number; printed = p ++ w .printed }
+
+next-behind : (p : List ℕ) (w : Run) (a : Asked) → nextRun (behind p w) a ≡ behind p (nextRun w a)
+unfolding nextRun
+next-behind p w a = rw append-assoc
+
+run-behind : (p : List ℕ) (w : Run) (ls : List (List ℕ)) → runLines (behind p w) ls ≡ behind p (runLines w ls)
+unfolding runLines
+run-behind p w [] = refl
+run-behind p w (l ∷ ls) = ap (λ (x : Run). runLines x ls) (next-behind p w (parse l)) ∙ run-behind p (nextRun w (parse l)) ls
 
 -- the lines before `at` were answered; where the last call used nothing, no whole line is left
-pub record Passed (s : List ℕ) (n first number at used : ℕ) : Type 0 where
+pub record Passed (t₀ : Trial) (b₀ : Lent) (s : List ℕ) (n first : ℕ) (t : Trial) (b : Lent) (number at used : ℕ) : Type 0 where
   pub answered : List (List ℕ)
+  pub printed : List ℕ
   pub lines : linesOf (take n s) ≡ answered ++ linesOf (part s at n)
-  pub counted : number ≡ first + length answered
+  pub run :
+      _≡_ {A = Run} (record { trial = t; lent = b; number = number; printed = printed })
+      (runLines (record { trial = t₀; lent = b₀; number = first; printed = [] }) answered)
   pub few : number ≤ first + at
   pub within : at ≤ n
   pub ends : used ≡ 0 → linesOf (part s at n) ≡ part s at n ∷ []
 
-pub passed-none : (s : List ℕ) (n first : ℕ) → Passed s n first first 0 1
-passed-none s n first =
+pub passed-none : (t : Trial) (b : Lent) (s : List ℕ) (n first : ℕ) → Passed t b s n first t b first 0 1
+unfolding runLines
+passed-none t b s n first =
     let e : n - 0 ≡ n = omega arith in
     record {
       answered = [];
+      printed = [];
       lines = rw e;
-      counted = omega arith;
+      run = refl;
       few = omega arith;
       within = omega arith;
       ends = λ z. absurd (omega (arith, z));
@@ -64,9 +85,6 @@ module _
   abbrev start : Run
   start = record { trial = t; lent = b; number = number; printed = [] }
 
-  lines-count : length (take (r .count) (linesOf text)) ≡ r .count
-  lines-count = omega (arith, run-number start (take (r .count) (linesOf text)), ap (λ (w : Run). w .number) (a .run))
-
   nothing-printed : r .used ≡ 0 → r .filled ≡ 0
   nothing-printed z =
       let e : take (r .filled) out′ ≡ [] = ap (λ (w : Run). w .printed) (a .run) ∙ run-none start (linesOf text) (r .count) (omega (arith, a .each)) in
@@ -76,36 +94,50 @@ module _
   none-left z = elim (a .ends) [ inl q ↦ q | inr q ↦ absurd (omega (arith, q, nothing-printed z)) ]
 
 pub passed-more :
-    {s : List ℕ} {n first number at used : ℕ} {t : Trial} {b b′ : Lent} {out out′ : List ℕ} {r : Answered} →
+    {t₀ : Trial} {b₀ : Lent} {s : List ℕ} {n first : ℕ} {t : Trial} {b : Lent} {number at used : ℕ} {b′ : Lent} {out out′ : List ℕ} {r : Answered} →
     64 ≤ length out →
     length out′ ≡ length out →
-    Passed s n first number at used →
+    Passed t₀ b₀ s n first t b number at used →
     Answers t number b (part s at n) out r b′ out′ →
-    Passed s n first (number + r .count) (at + r .used) (r .used)
-passed-more {s} {n} {first} {number} {at} {used} {r = r} g l k a =
+    Passed t₀ b₀ s n first (r .trial) b′ (number + r .count) (at + r .used) (r .used)
+passed-more {t₀} {b₀} {s} {n} {first} {t} {b} {number} {at} {r = r} g l k a =
     let ls = take (r .count) (linesOf (part s at n)) in
-    let c : length ls ≡ r .count = lines-count g l a in
+    let p = k .printed in
+    let R₀ : Run = record { trial = t₀; lent = b₀; number = first; printed = [] } in
+    let R : Run = record { trial = t; lent = b; number = number; printed = [] } in
     let e : drop (r .used) (part s at n) ≡ part s (at + r .used) n = part-drop s at (r .used) n in
     let m : length (part s at n) ≤ n - at = omega (arith, length-take (n - at) (drop at s)) in
+    let q : behind p R ≡ runLines R₀ (k .answered) = rw append-nil (k .run) in
     record {
       answered = k .answered ++ ls;
+      printed = p ++ take (r .filled) _;
       lines =
           k .lines
           ∙ ap (λ (x : List (List ℕ)). k .answered ++ x) (a .lines ∙ ap (λ (x : List ℕ). ls ++ linesOf x) e)
           ∙ sym (append-assoc (k .answered) ls (linesOf (part s (at + r .used) n)));
-      counted = omega (arith, k .counted, c, length-append (k .answered) ls);
+      run =
+          ap (behind p) (a .run)
+          ∙ sym (run-behind p R ls)
+          ∙ ap (λ (x : Run). runLines x ls) q
+          ∙ sym (run-append R₀ (k .answered) ls);
       few = omega (arith, k .few, a .each);
       within = omega (arith, k .within, a .within, m);
       ends = λ z. rw e at (none-left g l a z);
     }
 
-pub whole : {s s′ : List ℕ} {n first number at used held : ℕ} → used ≡ 0 → Passed s n first number at used → Keeps s s′ at (n - at) held → Whole s s′ first n number held
-whole {s} {n = n} {at = at} z p k =
+pub whole :
+    {t₀ : Trial} {b₀ : Lent} {s : List ℕ} {n first : ℕ} {t : Trial} {b : Lent} {number at used held : ℕ} {s′ : List ℕ} →
+    used ≡ 0 →
+    Passed t₀ b₀ s n first t b number at used →
+    Keeps s s′ at (n - at) held →
+    Whole t₀ b₀ s first n t b s′ number held
+whole {s = s} {n = n} {at = at} z p k =
     record {
       answered = p .answered;
       rest = part s at n;
+      printed = p .printed;
       lines = p .lines ∙ ap (λ (x : List (List ℕ)). p .answered ++ x) (p .ends z);
-      counted = p .counted;
+      run = p .run;
       kept = k .held;
       room = k .room;
       few = omega (arith, p .few, p .within, k .few);

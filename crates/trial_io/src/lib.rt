@@ -1,10 +1,12 @@
 // The trial program of document 01: lines from standard input to its end, and a line for each on standard output. What is printed for
 // which line is the contract of `trial_lines::answers`; what is held of a line that is not yet whole, and of one that is over-long, that
-// of `trial_bytes::keep`. Here is only the loop that reads and prints. Proved of it: it is safe and ends, every whole line is answered and
-// has its number, below 2^64 (specs/Whole.antt), and an over-long one is of another form (proofs/OverLong.antt).
+// of `trial_bytes::keep`. Here is only the loop that reads and prints. Proved of it: it is safe and ends, every whole line of a buffer is
+// answered from where the one before left trial and lent bytes, and has its number, below 2^64 (specs/Whole.antt), the bytes of a line are
+// those of its word in trial_laws (proofs/Printed.antt), and an over-long line is of another form (proofs/OverLong.antt).
 use trial_core::Trial;
 ghost use Prim.Native.Nat.{_+_, _≤_, _<_, _^_};
 ghost use lib.ListN.{length};
+ghost use Rattle.trial_core.specs.Moves.{lentOf};
 ghost use Rattle.trial_io.specs.Whole.{Whole};
 
 // After the lines of the buffer: the trial, how many lines there were, and how many bytes are held that are not yet a line.
@@ -27,7 +29,8 @@ fn whole_lines(
     invokes: &mut [u8; trial_core::INVOKES_LENGTH],
 ) -> After
     requires { ⌜ (n ≤ length (now buf)) × (1 < length (now buf)) × (64 ≤ length (now out)) × (first + n < 2 ^ 64) ⌝ }
-    ensures { λ r. ⌜ Whole (now (buf .entry)) (now (buf .exit)) first n (r .number) (r .held) ⌝ }
+    ensures { λ r. ⌜ Whole start (lentOf (now (log .entry)) (now (replies .entry)) (now (invokes .entry))) (now (buf .entry)) first n
+        (r .trial) (lentOf (now (log .exit)) (now (replies .exit)) (now (invokes .exit))) (now (buf .exit)) (r .number) (r .held) ⌝ }
 {
     let mut trial = start;
     let mut number = first;
@@ -85,8 +88,8 @@ pub fn run() {
             &mut replies,
             &mut invokes,
         );
-        let after = q.trial;
-        trial = after;
+        let next = q.trial;
+        trial = next;
         number = q.number;
         held = q.held;
         left = input.left;

@@ -27,14 +27,14 @@ use Rattle.trial_laws.proofs.InvokeMove.{Moved, invoke-move}
 use Rattle.trial_laws.proofs.DeliverMove.{deliver-move}
 
 -- the program's state shows a world
-abbrev pub Shown : Trial → Lent → World → Type 0
-Shown t b w = Shows (t .replicas) (t .lines) b w × (t .server ≡ w .server)
+abbrev pub TrialShows : Trial → Lent → World → Type 0
+TrialShows t b w = Shows (t .replicas) (t .lines) b w × (t .server ≡ w .server)
 
 -- a line's result shows the world v, and prints this
 abbrev pub Result : LineStep → World → ℕ → Word → Type 0
-Result r v van word = Shown (r .trial) (r .lent) v × ((r .van ≡ van) × (r .word ≡ word))
+Result r v van word = TrialShows (r .trial) (r .lent) v × ((r .van ≡ van) × (r .word ≡ word))
 
-module _ (t : Trial) (b : Lent) (w : World) (S : Shown t b w) (R : Reached w) where
+module _ (t : Trial) (b : Lent) (w : World) (S : TrialShows t b w) (R : Reached w) where
   unmoved-result : (van : ℕ) (word : Word) → Result (unmoved t b van word) (runFrom w []) van word
   unfolding unmoved runFrom
   unmoved-result van word = (S, (refl, refl))
@@ -118,8 +118,8 @@ module _ (t : Trial) (b : Lent) (w : World) (S : Shown t b w) (R : Reached w) wh
       (bool-cases (isClient n))
 
 -- ---- the line
-module _ (t : Trial) (b : Lent) (w : World) (S : Shown t b w) (R : Reached w) where
-  again-shown : Shown (againTrial t (againOf t b)) (againLent b (againOf t b)) (offered w)
+module _ (t : Trial) (b : Lent) (w : World) (S : TrialShows t b w) (R : Reached w) where
+  again-shown : TrialShows (againTrial t (againOf t b)) (againLent b (againOf t b)) (offered w)
   unfolding againTrial againLent againOf offered
   again-shown =
       subst (λ (s : Server). Good (t .replicas) b (runFrom w (offers 8)) (offerTo 8 s (t .lines) (b .replies) (b .invokes))) (sym (S .1))

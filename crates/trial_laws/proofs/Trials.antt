@@ -20,7 +20,7 @@ use Rattle.trial_ways.proofs.Ring.{logFrom}
 use Rattle.trial_ways.proofs.Ways.{none}
 use Rattle.trial_ways.proofs.Reached.{Reached, run-append, reached-start, reached-run}
 use Rattle.trial_ways.proofs.Shows.{ClientAt, Sizes, trues}
-use Rattle.trial_laws.proofs.Steps.{Shown, line-result}
+use Rattle.trial_laws.proofs.Steps.{TrialShows, line-result}
 
 -- ---- the start
 replicas-length : (n : ℕ) → length (replicasTo n) ≡ n
@@ -67,7 +67,7 @@ start-bound : (i : ℕ) → i < 8 → start trialKeys .server .placed + trues (s
 unfolding start startTrial trues
 start-bound i h = omega arith
 
-start-shown : Shown startTrial startLent (start trialKeys)
+start-shown : TrialShows startTrial startLent (start trialKeys)
 unfolding startTrial start
 start-shown = (record { sizes = start-sizes; replica = start-replica; client = start-client startLent; bound = start-bound }, refl)
 
@@ -76,7 +76,7 @@ pub reached-line : (w : World) (a : Asked) → Reached w → Reached (afterLine 
 unfolding afterLine offered
 reached-line w a R = reached-run (offered w) (lineActions (offered w) a) (reached-run w (offers 8) R)
 
-printed-same : (lines : List Asked) (t : Trial) (b : Lent) (w : World) → Shown t b w → Reached w → printed t b lines ≡ trialWords w lines
+printed-same : (lines : List Asked) (t : Trial) (b : Lent) (w : World) → TrialShows t b w → Reached w → printed t b lines ≡ trialWords w lines
 unfolding printed trialWords
 printed-same [] t b w S R = refl
 printed-same (a ∷ more) t b w S R =

@@ -16,7 +16,7 @@ use Rattle.trial_print.specs.Line.{lineBytes}
 use Rattle.trial_core.specs.declared.Trial.{Trial}
 use Rattle.trial_core.specs.Trial.{Lent, lineStep}
 use Rattle.trial_answer.specs.declared.Line.{Line}
-use Rattle.trial_answer.specs.Answer.{Said}
+use Rattle.trial_answer.specs.Answer.{LineAnswered}
 use Rattle.trial_lines.specs.Lines.{Run, nextRun, runLines, linesOf, Answers}
 
 pub run-more : (w : Run) (ls : List (List ℕ)) (l : List ℕ) → runLines w (ls ++ (l ∷ [])) ≡ nextRun (runLines w ls) (parse l)
@@ -68,7 +68,7 @@ module _ {t₀ : Trial} {n : ℕ} {b₀ : Lent} {text out₀ : List ℕ} {t : Tr
       (e ≡ length text → ⊥) →
       filled + 64 ≤ length out₀ →
       a ≡ parse (take (e - at) (drop at text)) →
-      Said t (n + count + 1) b a out filled r b′ out′ →
+      LineAnswered t (n + count + 1) b a out filled r b′ out′ →
       So t₀ n b₀ text out₀ (r .trial) b′ out′ (count + 1) (e + 1) (r .filled)
   unfolding nextRun
   so-more e a r b′ out′ q g h o s′ =

@@ -8,31 +8,31 @@ use replica::Event;
 use replica::Outcome;
 use server::ServerEvent;
 use server::ServerOutcome;
-use trial_said::Said;
+use trial_said::Shown;
 
-fn event_said(event: Event) -> Said
+fn event_said(event: Event) -> Shown
     ensures { λ r. ⌜ wordOf r ≡ toldWord (O.eventTold event) ⌝ }
 {
     match event {
-        Event::Opened => Said::Empty,
-        Event::Invoked(_) => Said::Empty,
-        Event::Responded { seq, response } => Said::Answer {
+        Event::Opened => Shown::Empty,
+        Event::Invoked(_) => Shown::Empty,
+        Event::Responded { seq, response } => Shown::Answer {
             place: seq,
             answer: response,
         },
-        Event::Aborted { seq } => Said::Aside(seq),
-        Event::Confirmed { seq, status } => Said::Confirm { place: seq, status },
+        Event::Aborted { seq } => Shown::Aside(seq),
+        Event::Confirmed { seq, status } => Shown::Confirm { place: seq, status },
     }
 }
 
 // What a client's outcome prints.
-pub fn told_said(outcome: Outcome) -> Said
+pub fn told_said(outcome: Outcome) -> Shown
     ensures { λ r. ⌜ wordOf r ≡ toldWord (O.told outcome) ⌝ }
 {
     match outcome {
         Outcome::Success(event) => event_said(event),
-        Outcome::Refused(why) => Said::No(replica::refusal_number(why)),
-        Outcome::Halted(why) => Said::Halt(replica::halt_number(why)),
+        Outcome::Refused(why) => Shown::No(replica::refusal_number(why)),
+        Outcome::Halted(why) => Shown::Halt(replica::halt_number(why)),
     }
 }
 
@@ -47,22 +47,22 @@ pub fn is_success(outcome: Outcome) -> bool
     }
 }
 
-fn served_event_said(event: ServerEvent) -> Said
+fn served_event_said(event: ServerEvent) -> Shown
     ensures { λ r. ⌜ wordOf r ≡ servedWord (S.eventTold event) ⌝ }
 {
     match event {
-        ServerEvent::Placed(p) => Said::Placed(p),
-        ServerEvent::Broadcast(_) => Said::Empty,
+        ServerEvent::Placed(p) => Shown::Placed(p),
+        ServerEvent::Broadcast(_) => Shown::Empty,
     }
 }
 
 // What the server's outcome prints.
-pub fn served_said(outcome: ServerOutcome) -> Said
+pub fn served_said(outcome: ServerOutcome) -> Shown
     ensures { λ r. ⌜ wordOf r ≡ servedWord (S.told outcome) ⌝ }
 {
     match outcome {
         ServerOutcome::Success(event) => served_event_said(event),
-        ServerOutcome::Refused(why) => Said::No(server::refusal_number(why)),
+        ServerOutcome::Refused(why) => Shown::No(server::refusal_number(why)),
     }
 }
 

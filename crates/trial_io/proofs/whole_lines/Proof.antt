@@ -3,19 +3,20 @@ use mathlib.Core.Path.{_≡_}
 use native.Mathlib.Omega.{arith}
 use borrow.Author.Needs.{needs}
 use lib.ListN.{length}
+use Rattle.trial_core.specs.Moves.{lentOf}
 use Rattle.trial_io.proofs.Laws.{Passed, passed-none, passed-more, whole}
 use Rattle.trial_io.proofs.whole_lines.Statement.{statement}
 use Rattle.trial_io.proofs.whole_lines.Tie as tie
 
 abbrev Inv-loop : tie.InvT-loop
 Inv-loop first n buf out₀ log₀ replies₀ invokes₀ trial₀ number₀ at₀ used₀ out log replies invokes trial number at used =
-    Passed buf n first number at used × (length out ≡ length out₀)
+    Passed trial₀ (lentOf log₀ replies₀ invokes₀) buf n first trial (lentOf log replies invokes) number at used × (length out ≡ length out₀)
 
 abbrev μ-loop : tie.MeasureT-loop
 μ-loop first n buf out₀ log₀ replies₀ invokes₀ trial₀ number₀ at₀ used₀ out log replies invokes trial number at used = n + used - at
 
 loop-holds : tie.Need-loop-holds Inv-loop μ-loop
-loop-holds c = (passed-none _ _ _, search needs)
+loop-holds c = (passed-none _ _ _ _ _, search needs)
 
 sub-answers : tie.Need-sub-answers Inv-loop μ-loop
 sub-answers c = search needs
@@ -46,7 +47,7 @@ loop-again c =
     let k = c .before .before .before .before .before .before .before .before .before .before .before .before .before .before .loop in
     let a = c .before .before .before .before .before .before .answers in
     let g : 64 ≤ length (k .out) = omega (arith, c .before .before .before .before .before .before .before .before .before .before .before .before .before .before .before .before .before .pre .2, k .inv .1) in
-    (passed-more g (search needs) (k .inv .0) (a .ensures), search needs)
+    (passed-more {r = a .result} g (search needs) (k .inv .0) (a .ensures), search needs)
 
 keep-requires : tie.Need-keep-requires Inv-loop μ-loop
 keep-requires c κs = search needs
