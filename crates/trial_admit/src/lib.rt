@@ -10,7 +10,7 @@ ghost use Rattle.trial_core.specs.Trial.{isClient, commandStep};
 ghost use Rattle.trial_core.specs.Moves.{lentOf};
 ghost use Rattle.trial_store.specs.Step.{lineOf};
 use trial_core::Trial;
-use trial_said::Shown;
+use trial_said::LineWord;
 use trial_store::Result;
 
 // An invoke at a client, where not too many broadcasts are undelivered.
@@ -34,7 +34,7 @@ pub fn invoke(
         Result {
             trial: t,
             van,
-            said: Shown::Full,
+            said: LineWord::Full,
         }
     } else {
         let i = (van - 1) as usize;

@@ -1,7 +1,7 @@
 // The trial of document 01: eight clients, the server and the lines between them. Its state; definitions: specs/Trial.antt.
 use replica::Replica;
 use server::Server;
-use trial_said::Shown;
+use trial_said::LineWord;
 
 // How many clients there are.
 pub const CLIENTS: usize = message::CLIENTS as usize;
@@ -46,5 +46,5 @@ pub struct Moved {
     pub replica: Replica,
     pub server: Server,
     pub lines: Lines,
-    pub said: Shown,
+    pub said: LineWord,
 }

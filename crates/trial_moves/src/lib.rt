@@ -11,7 +11,7 @@ use replica::Replica;
 use server::Server;
 use trial_core::Lines;
 use trial_core::Moved;
-use trial_said::Shown;
+use trial_said::LineWord;
 
 // ---- invoking
 
@@ -109,7 +109,7 @@ pub fn deliver(r: Replica, s: Server, l: Lines, i: usize, log: &mut [u8], replie
                 replica: r,
                 server: s,
                 lines: l,
-                said: Shown::Empty,
+                said: LineWord::Empty,
             }
         }
     }

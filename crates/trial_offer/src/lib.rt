@@ -10,13 +10,13 @@ ghost use Rattle.trial_core.specs.Trial.{withReply, withRefused, offer};
 ghost use Rattle.trial_offer.specs.Offers.{offeringOf, againOffering, offeredOne, offeredTo};
 use server::Server;
 use trial_core::Lines;
-use trial_said::Shown;
+use trial_said::LineWord;
 
 // The server and the lines after an invoke is offered, and what that prints.
 pub struct Offered {
     pub server: Server,
     pub lines: Lines,
-    pub said: Shown,
+    pub said: LineWord,
 }
 
 // The server and the lines after the refused invokes are offered again.

@@ -8,31 +8,31 @@ use replica::Event;
 use replica::Outcome;
 use server::ServerEvent;
 use server::ServerOutcome;
-use trial_said::Shown;
+use trial_said::LineWord;
 
-fn event_said(event: Event) -> Shown
+fn event_said(event: Event) -> LineWord
     ensures { λ r. ⌜ wordOf r ≡ toldWord (O.eventTold event) ⌝ }
 {
     match event {
-        Event::Opened => Shown::Empty,
-        Event::Invoked(_) => Shown::Empty,
-        Event::Responded { seq, response } => Shown::Answer {
+        Event::Opened => LineWord::Empty,
+        Event::Invoked(_) => LineWord::Empty,
+        Event::Responded { seq, response } => LineWord::Answer {
             place: seq,
             answer: response,
         },
-        Event::Aborted { seq } => Shown::Aside(seq),
-        Event::Confirmed { seq, status } => Shown::Confirm { place: seq, status },
+        Event::Aborted { seq } => LineWord::Aside(seq),
+        Event::Confirmed { seq, status } => LineWord::Confirm { place: seq, status },
     }
 }
 
 // What a client's outcome prints.
-pub fn told_said(outcome: Outcome) -> Shown
+pub fn told_said(outcome: Outcome) -> LineWord
     ensures { λ r. ⌜ wordOf r ≡ toldWord (O.told outcome) ⌝ }
 {
     match outcome {
         Outcome::Success(event) => event_said(event),
-        Outcome::Refused(why) => Shown::No(replica::refusal_number(why)),
-        Outcome::Halted(why) => Shown::Halt(replica::halt_number(why)),
+        Outcome::Refused(why) => LineWord::No(replica::refusal_number(why)),
+        Outcome::Halted(why) => LineWord::Halt(replica::halt_number(why)),
     }
 }
 
@@ -47,22 +47,22 @@ pub fn is_success(outcome: Outcome) -> bool
     }
 }
 
-fn served_event_said(event: ServerEvent) -> Shown
+fn served_event_said(event: ServerEvent) -> LineWord
     ensures { λ r. ⌜ wordOf r ≡ servedWord (S.eventTold event) ⌝ }
 {
     match event {
-        ServerEvent::Placed(p) => Shown::Placed(p),
-        ServerEvent::Broadcast(_) => Shown::Empty,
+        ServerEvent::Placed(p) => LineWord::Placed(p),
+        ServerEvent::Broadcast(_) => LineWord::Empty,
     }
 }
 
 // What the server's outcome prints.
-pub fn served_said(outcome: ServerOutcome) -> Shown
+pub fn served_said(outcome: ServerOutcome) -> LineWord
     ensures { λ r. ⌜ wordOf r ≡ servedWord (S.told outcome) ⌝ }
 {
     match outcome {
         ServerOutcome::Success(event) => served_event_said(event),
-        ServerOutcome::Refused(why) => Shown::No(server::refusal_number(why)),
+        ServerOutcome::Refused(why) => LineWord::No(server::refusal_number(why)),
     }
 }
 

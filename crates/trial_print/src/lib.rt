@@ -5,10 +5,10 @@ ghost use lib.ListN.{length};
 ghost use Rattle.slices.specs.Bytes.{put};
 ghost use Rattle.trial_said.specs.Word.{wordOf};
 ghost use Rattle.trial_print.specs.Line.{lineBytes};
-use trial_said::Shown;
+use trial_said::LineWord;
 
 // Writes the line that a line of input gives. 64 bytes are enough.
-pub fn put_line(out: &mut [u8], at: usize, number: u64, van: u8, said: Shown) -> usize
+pub fn put_line(out: &mut [u8], at: usize, number: u64, van: u8, said: LineWord) -> usize
     requires { ⌜ at + 64 ≤ length (now out) ⌝ }
     ensures { λ r. ⌜ (r ≡ at + length (lineBytes number van (wordOf said)))
         × (now (out .exit) ≡ put (now (out .entry)) at (lineBytes number van (wordOf said)))

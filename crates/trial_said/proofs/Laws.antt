@@ -7,7 +7,7 @@ use lib.ListN.{length, length-append}
 use Rattle.slices.specs.Bytes.{put}
 use Rattle.text.specs.Text.{decimalOf}
 use Rattle.text.proofs.Laws.{decimal-most, put-put}
-use Rattle.trial_said.specs.declared.Shown.{Shown}
+use Rattle.trial_said.specs.declared.LineWord.{LineWord}
 use Rattle.trial_said.specs.Word.{wordOf, wordBytes}
 
 -- x is z with t put at at, and p the place after it
@@ -28,7 +28,7 @@ digits-32 n h = decimal-most 9 n (omega arith)
 
 -- a line's word, by what is said
 pub said-is :
-    (z y : List ℕ) (at q : ℕ) (s t : Shown) →
+    (z y : List ℕ) (at q : ℕ) (s t : LineWord) →
     s ≡ t →
     q ≡ at + length (wordBytes (wordOf t)) →
     y ≡ put z at (wordBytes (wordOf t)) →

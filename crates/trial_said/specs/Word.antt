@@ -2,8 +2,8 @@
 use Prim.Native.Nat.{ℕ}
 use mathlib.Core.List.{List, [], _∷_, _++_}
 use Rattle.text.specs.Text.{decimalOf}
-use Rattle.trial_said.specs.declared.Shown.{Shown}
-use Rattle.trial_said.specs.declared.Shown.the-variants as S
+use Rattle.trial_said.specs.declared.LineWord.{LineWord}
+use Rattle.trial_said.specs.declared.LineWord.the-variants as S
 
 -- "word, data (placed place; answer place answer; aside place; confirm place status; empty; no or halt number)", "bad", "full"
 pub data Word : Type 0 where
@@ -18,7 +18,7 @@ pub data Word : Type 0 where
   full : Word
 
 -- the values of the enum's cases
-abbrev pub wordOf : Shown → Word
+abbrev pub wordOf : LineWord → Word
 wordOf (S.Placed p) = placed p
 wordOf (S.Answer p a) = answer p a
 wordOf (S.Aside p) = aside p

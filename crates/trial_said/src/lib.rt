@@ -7,7 +7,7 @@ ghost use Rattle.slices.specs.Bytes.{put};
 ghost use Rattle.trial_said.specs.Word.{wordOf, datum, wordBytes};
 
 // What a line of input gives.
-pub enum Shown {
+pub enum LineWord {
     Placed(u32),
     Answer { place: u32, answer: u16 },
     Aside(u32),
@@ -61,21 +61,21 @@ fn put_two(out: &mut [u8], at: usize, s: &[u8], m: u32, n: u32) -> usize
 }
 
 // The word and its data. 29 bytes are enough.
-pub fn put_said(out: &mut [u8], at: usize, said: Shown) -> usize
+pub fn put_said(out: &mut [u8], at: usize, said: LineWord) -> usize
     requires { ⌜ at + 29 ≤ length (now out) ⌝ }
     ensures { λ r. ⌜ (r ≡ at + length (wordBytes (wordOf said)))
         × (now (out .exit) ≡ put (now (out .entry)) at (wordBytes (wordOf said)))
         × (r ≤ at + 29) ⌝ }
 {
     match said {
-        Shown::Placed(p) => put_one(out, at, b"placed", p),
-        Shown::Answer { place, answer } => put_two(out, at, b"answer", place, answer as u32),
-        Shown::Aside(p) => put_one(out, at, b"aside", p),
-        Shown::Confirm { place, status } => put_two(out, at, b"confirm", place, status as u32),
-        Shown::Empty => put_bytes(out, at, b"empty"),
-        Shown::No(n) => put_one(out, at, b"no", n as u32),
-        Shown::Halt(n) => put_one(out, at, b"halt", n as u32),
-        Shown::Bad => put_bytes(out, at, b"bad"),
-        Shown::Full => put_bytes(out, at, b"full"),
+        LineWord::Placed(p) => put_one(out, at, b"placed", p),
+        LineWord::Answer { place, answer } => put_two(out, at, b"answer", place, answer as u32),
+        LineWord::Aside(p) => put_one(out, at, b"aside", p),
+        LineWord::Confirm { place, status } => put_two(out, at, b"confirm", place, status as u32),
+        LineWord::Empty => put_bytes(out, at, b"empty"),
+        LineWord::No(n) => put_one(out, at, b"no", n as u32),
+        LineWord::Halt(n) => put_one(out, at, b"halt", n as u32),
+        LineWord::Bad => put_bytes(out, at, b"bad"),
+        LineWord::Full => put_bytes(out, at, b"full"),
     }
 }

@@ -12,13 +12,13 @@ ghost use Rattle.trial_store.specs.Step.{lineOf, trialWith};
 use replica::Replica;
 use trial_core::Moved;
 use trial_core::Trial;
-use trial_said::Shown;
+use trial_said::LineWord;
 
 // A trial after a command, the van that is printed, and what the command gives.
 pub struct Result {
     pub trial: Trial,
     pub van: u8,
-    pub said: Shown,
+    pub said: LineWord,
 }
 
 // The replica of client `i` + 1.
@@ -72,6 +72,6 @@ pub fn bad(t: Trial) -> Result
     Result {
         trial: t,
         van: 0,
-        said: Shown::Bad,
+        said: LineWord::Bad,
     }
 }
