@@ -9,7 +9,7 @@ ghost use Rattle.checks.specs.Checks.{firstNo};
 ghost use Rattle.client_reply_check.specs.ReplyChecks.{itemsChecks, lastOk, markChecks, replyFormChecks, replyNo};
 ghost use Rattle.key_table.specs.KeyTable.{StateOf};
 use hmac::Keyed;
-use key_table::Entry;
+use key_table::KeyEntry;
 use replica::Replica;
 
 // The first no, and what tags by the client's own key start from where there is none.
@@ -41,17 +41,17 @@ fn items_check(r: Replica, m: &[u8], n: usize) -> Checked
     let mut k = 0;
     while k < n {
         let i = message::item_of(m, k);
-        let at = key_table::slot(i.author);
+        let at = key_table::entry_place(i.author);
         let e = t[at];
         let s = key_table::state_of(e, keys, i.author);
-        t[at] = Entry {
+        t[at] = KeyEntry {
             known: true,
             state: s,
         };
         q = client_reply_check::item_also(q, r.confirmed, r.held, &r.chain, n, k, i, s);
         k += 1;
     }
-    let at = key_table::slot(r.number);
+    let at = key_table::entry_place(r.number);
     let e = t[at];
     Checked {
         no: q,

@@ -10,13 +10,13 @@ use Rattle.hmac.specs.declared.Keyed.{Keyed}
 use Rattle.hmac.specs.Keyed.{keyedOf}
 use Rattle.message.specs.Layout.{clientCount}
 use Rattle.verify.specs.Verify.{keyOf}
-use Rattle.key_table.specs.declared.Entry.{Entry}
+use Rattle.key_table.specs.declared.KeyEntry.{KeyEntry}
 
 abbrev zeroState : State
 zeroState = record { a = 0; b = 0; c = 0; d = 0; e = 0; f = 0; g = 0; h = 0 }
 
 -- an entry that is not known
-abbrev pub noEntry : Entry
+abbrev pub noEntry : KeyEntry
 noEntry = record { known = false; state = record { inner = zeroState; outer = zeroState } }
 
 -- s is what tags by a client's key start from
@@ -24,9 +24,9 @@ abbrev pub StateOf : List ℕ → ℕ → Keyed → Type 0
 StateOf keys n s = s ≡ keyedOf (keyOf keys n)
 
 -- the place of a client's entry
-abbrev pub slotOf : ℕ → ℕ
-slotOf n = cond (leb n clientCount) n 0
+abbrev pub entryPlace : ℕ → ℕ
+entryPlace n = cond (leb n clientCount) n 0
 
 -- each client's entry that is known is that client's
-pub record Right (keys : List ℕ) (t : List Entry) : Type 0 where
-  pub each : (n : ℕ) → getD t (slotOf n) noEntry .known ≡ true → 1 ≤ n → n ≤ clientCount → StateOf keys n (getD t (slotOf n) noEntry .state)
+pub record Right (keys : List ℕ) (t : List KeyEntry) : Type 0 where
+  pub each : (n : ℕ) → getD t (entryPlace n) noEntry .known ≡ true → 1 ≤ n → n ≤ clientCount → StateOf keys n (getD t (entryPlace n) noEntry .state)

@@ -4,12 +4,12 @@ ghost use mathlib.Core.List.{List};
 ghost use mathlib.Core.Bool.{true};
 ghost use Prim.Native.Nat.{ℕ, _<_, _≤_};
 ghost use Rattle.message.specs.Layout.{clientCount};
-ghost use Rattle.key_table.specs.KeyTable.{Right, StateOf, slotOf};
+ghost use Rattle.key_table.specs.KeyTable.{Right, StateOf, entryPlace};
 use hmac::Keyed;
 use sha256_core::State;
 
 // Client k's entry is entry k of the table; entry 0 is no client's.
-pub struct Entry {
+pub struct KeyEntry {
     pub known: bool,
     pub state: Keyed,
 }
@@ -35,11 +35,11 @@ pub fn no_key() -> Keyed {
 }
 
 // A table with nothing known.
-pub fn none() -> [Entry; 9]
+pub fn none() -> [KeyEntry; 9]
     ensures { λ r. ⌜ ((keys : List ℕ) → Right keys r) ⌝ }
 {
     let state = no_key();
-    let e = Entry {
+    let e = KeyEntry {
         known: false,
         state,
     };
@@ -47,8 +47,8 @@ pub fn none() -> [Entry; 9]
 }
 
 // The place of a client's entry; that of no client for another number.
-pub fn slot(client: u8) -> usize
-    ensures { λ r. ⌜ (r ≡ slotOf client) × (r < 9) ⌝ }
+pub fn entry_place(client: u8) -> usize
+    ensures { λ r. ⌜ (r ≡ entryPlace client) × (r < 9) ⌝ }
 {
     if client <= message::CLIENTS {
         client as usize
@@ -69,7 +69,7 @@ fn worked_out(keys: [u8; message::KEYS_LENGTH], client: u8) -> Keyed
 }
 
 // A client's state, from its entry where it is known, else worked out.
-pub fn state_of(e: Entry, keys: [u8; message::KEYS_LENGTH], client: u8) -> Keyed
+pub fn state_of(e: KeyEntry, keys: [u8; message::KEYS_LENGTH], client: u8) -> Keyed
     requires { ⌜ (e .known ≡ true → 1 ≤ client → client ≤ clientCount → StateOf keys client (e .state)) ⌝ }
     ensures { λ r. ⌜ (1 ≤ client → client ≤ clientCount → StateOf keys client r) ⌝ }
 {

@@ -27,8 +27,8 @@ loop-holds c = (refl, search needs, c .none .ensures _)
 item-of-requires : tie.Need-item-of-requires Inv-loop μ-loop
 item-of-requires c κs = search needs
 
-slot-requires : tie.Need-slot-requires Inv-loop μ-loop
-slot-requires c κs = search needs
+entry-place-requires : tie.Need-entry-place-requires Inv-loop μ-loop
+entry-place-requires c κs = search needs
 
 mul-e : tie.Need-mul-e Inv-loop μ-loop
 mul-e c = search needs
@@ -37,7 +37,7 @@ array-copy-out-e : tie.Need-array-copy-out-e Inv-loop μ-loop
 array-copy-out-e c = search needs
 
 state-of-requires : tie.Need-state-of-requires Inv-loop μ-loop
-state-of-requires c κs = rw (c .before .slot .ensures .0) (c .before .before .before .before .loop .inv .2 .each _)
+state-of-requires c κs = rw (c .before .entry-place .ensures .0) (c .before .before .before .before .loop .inv .2 .each _)
 
 mul-t : tie.Need-mul-t Inv-loop μ-loop
 mul-t c = search needs
@@ -63,11 +63,11 @@ loop-again c =
     let e = ap (λ (i : Item). firstNo (l .q) (itemChecks (a .t1) (a .n) (l .k) i)) (c .before .before .before .before .before .before .item-of .ensures) in (
       c .item-also .ensures (a .t1) s ∙ e ∙ rw (l .inv .0) (items-more (a .t1) (a .m .now) (l .k)),
       search needs,
-      rw (c .before .before .before .before .before .slot .ensures .0) (one-more _ _ _ _ (l .inv .2) s),
+      rw (c .before .before .before .before .before .entry-place .ensures .0) (one-more _ _ _ _ (l .inv .2) s),
     )
 
-slot-requires-2 : tie.Need-slot-requires-2 Inv-loop μ-loop
-slot-requires-2 c κs = search needs
+entry-place-requires-2 : tie.Need-entry-place-requires-2 Inv-loop μ-loop
+entry-place-requires-2 c κs = search needs
 
 mul-e-2 : tie.Need-mul-e-2 Inv-loop μ-loop
 mul-e-2 c = search needs
@@ -76,7 +76,7 @@ array-copy-out-e-2 : tie.Need-array-copy-out-e-2 Inv-loop μ-loop
 array-copy-out-e-2 c = search needs
 
 state-of-requires-2 : tie.Need-state-of-requires-2 Inv-loop μ-loop
-state-of-requires-2 c κs = rw (c .before .slot2 .ensures .0) (c .before .before .before .loop .inv .2 .each _)
+state-of-requires-2 c κs = rw (c .before .entry-place2 .ensures .0) (c .before .before .before .loop .inv .2 .each _)
 
 returns : tie.Need-returns Inv-loop μ-loop
 returns c =
@@ -93,7 +93,7 @@ items-check-spec =
     none-requires
     loop-holds
     item-of-requires
-    slot-requires
+    entry-place-requires
     mul-e
     array-copy-out-e
     state-of-requires
@@ -103,7 +103,7 @@ items-check-spec =
     add-k
     loop-less
     loop-again
-    slot-requires-2
+    entry-place-requires-2
     mul-e-2
     array-copy-out-e-2
     state-of-requires-2

@@ -1,8 +1,8 @@
 use native.Mathlib.Omega.{arith}
 use borrow.Author.Needs.{needs}
 use borrow.Author.Tests.{le-leb, lt-leb}
-use Rattle.key_table.proofs.slot.Statement.{statement}
-use Rattle.key_table.proofs.slot.Tie as tie
+use Rattle.key_table.proofs.entry_place.Statement.{statement}
+use Rattle.key_table.proofs.entry_place.Tie as tie
 
 returns : tie.Need-returns
 returns c = (rw (le-leb (c .before .args .client) 8 (omega (arith, c .if1 .taken))), search needs)
@@ -10,5 +10,5 @@ returns c = (rw (le-leb (c .before .args .client) 8 (omega (arith, c .if1 .taken
 returns-2 : tie.Need-returns-2
 returns-2 c = (rw (lt-leb (c .before .args .client) 8 (omega (arith, c .if1 .left))), search needs)
 
-pub slot-spec : {M : Type 1} → statement M
-slot-spec = tie.close (tie.spec returns returns-2)
+pub entry-place-spec : {M : Type 1} → statement M
+entry-place-spec = tie.close (tie.spec returns returns-2)
