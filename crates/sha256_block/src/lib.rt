@@ -2,7 +2,7 @@
 ghost use mathlib.Core.Path.{_≡_};
 ghost use Prim.Native.Nat.{_+_, _≤_, _<_};
 ghost use lib.ListN.{length, take};
-ghost use Rattle.sha256_block.specs.Block.{wordsAt, nextWord, schedule};
+ghost use Rattle.sha256_block.specs.Block.{wordsAt, nextWord};
 ghost use Rattle.sha256_block.specs.Inner.{addWord, addWords};
 
 // Word t of the schedule, from the words before it.
@@ -16,7 +16,7 @@ fn next_word(w: &[u32; 64], t: usize) -> u32
 }
 
 // The sixteen words of the block at `at`, in a schedule whose other words are free.
-fn load(m: &[u8], at: usize) -> [u32; 64]
+pub fn load(m: &[u8], at: usize) -> [u32; 64]
     requires { ⌜ at + 64 ≤ length (now m) ⌝ }
     ensures { λ r. ⌜ (length r ≡ 64) × (take 16 r ≡ wordsAt 16 (now (m .entry)) at) ⌝ }
 {
@@ -39,7 +39,7 @@ fn add_word(w: &mut [u32; 64], t: usize)
 }
 
 // Eight words of the schedule, from word t on.
-fn eight_words(w: &mut [u32; 64], t: usize)
+pub fn eight_words(w: &mut [u32; 64], t: usize)
     requires { ⌜ (16 ≤ t) × (t + 8 ≤ 64) ⌝ }
     ensures { λ _. ⌜ now (w .exit) ≡ addWords 8 t (now (w .entry)) ⌝ }
 {
@@ -51,18 +51,4 @@ fn eight_words(w: &mut [u32; 64], t: usize)
     add_word(w, t + 5);
     add_word(w, t + 6);
     add_word(w, t + 7);
-}
-
-// The schedule of the block at `at`.
-pub fn expand(m: &[u8], at: usize) -> [u32; 64]
-    requires { ⌜ at + 64 ≤ length (now m) ⌝ }
-    ensures { λ r. ⌜ r ≡ schedule 48 (wordsAt 16 (now (m .entry)) at) ⌝ }
-{
-    let mut w = load(m, at);
-    let mut n: usize = 0;
-    while n < 6 {
-        eight_words(&mut w, 16 + 8 * n);
-        n += 1;
-    }
-    w
 }

@@ -1,7 +1,7 @@
 // One block of SHA-256 (FIPS 180-4, section 6.2.2): the rounds on its schedule, and the next hash value. Definitions: specs/Block.antt of sha256_block.
 ghost use mathlib.Core.Path.{_≡_};
 ghost use Prim.Native.Nat.{_+_, _≤_, _<_};
-ghost use lib.ListN.{length};
+ghost use lib.ListN.{length, take};
 ghost use Rattle.sha256_core.specs.Round.{kTable};
 ghost use Rattle.sha256_block.specs.Block.{wordsAt, schedule, rounds, compressOf};
 ghost use Rattle.sha256_block.specs.Inner.{roundsFrom};
@@ -22,18 +22,21 @@ fn eight<'a>(k: &'a [u32; 64], w: &'a [u32; 64], t: usize, s: State) -> State
     sha256_core::round(k, w, t + 7, s7)
 }
 
-// The 64 rounds on a schedule.
-fn all_rounds(w: &[u32; 64], s: State) -> State
-    ensures { λ r. ⌜ r ≡ rounds 64 (now (w .entry)) s ⌝ }
+// The 64 rounds on a schedule whose first 16 words are there: before each eight words more, the eight rounds that go before them.
+fn all_rounds(w: &mut [u32; 64], s: State) -> State
+    requires { ⌜ length (now w) ≡ 64 ⌝ }
+    ensures { λ r. ⌜ r ≡ rounds 64 (schedule 48 (take 16 (now (w .entry)))) s ⌝ }
 {
     let k = sha256_core::table();
     let mut n: usize = 0;
     let mut q = s;
-    while n < 8 {
+    while n < 6 {
         q = eight(&k, w, 8 * n, q);
+        sha256_block::eight_words(w, 16 + 8 * n);
         n += 1;
     }
-    q
+    let p = eight(&k, w, 48, q);
+    eight(&k, w, 56, p)
 }
 
 // The next hash value, from the block at `at`.
@@ -41,6 +44,6 @@ pub fn compress(s: State, m: &[u8], at: usize) -> State
     requires { ⌜ at + 64 ≤ length (now m) ⌝ }
     ensures { λ r. ⌜ r ≡ compressOf s (wordsAt 16 (now (m .entry)) at) ⌝ }
 {
-    let w = sha256_block::expand(m, at);
-    sha256_core::sum(s, all_rounds(&w, s))
+    let mut w = sha256_block::load(m, at);
+    sha256_core::sum(s, all_rounds(&mut w, s))
 }

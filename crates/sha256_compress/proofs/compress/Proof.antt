@@ -3,8 +3,8 @@ use borrow.Author.Needs.{needs}
 use Rattle.sha256_compress.proofs.compress.Statement.{statement}
 use Rattle.sha256_compress.proofs.compress.Tie as tie
 
-expand-requires : tie.Need-expand-requires
-expand-requires c κs = search needs
+load-requires : tie.Need-load-requires
+load-requires c κs = search needs
 
 all-rounds-requires : tie.Need-all-rounds-requires
 all-rounds-requires c κs = search needs
@@ -14,7 +14,7 @@ sum-requires c κs = search needs
 
 returns : tie.Need-returns
 unfolding compressOf
-returns c = cc
+returns c = rw (c .sum .ensures, c .before .all-rounds .ensures, c .before .before .before .load .ensures .1)
 
 pub compress-spec : {M : Type 1} → statement M
-compress-spec = tie.close (tie.spec expand-requires all-rounds-requires sum-requires returns)
+compress-spec = tie.close (tie.spec load-requires all-rounds-requires sum-requires returns)
