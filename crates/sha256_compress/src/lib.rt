@@ -22,7 +22,7 @@ fn eight<'a>(k: &'a [u32; 64], w: &'a [u32; 64], t: usize, s: State) -> State
     sha256_core::round(k, w, t + 7, s7)
 }
 
-// The 64 rounds on a schedule whose first 16 words are there: before each eight words more, the eight rounds that go before them.
+// The 64 rounds on a schedule whose first 16 words are there: after each eight rounds the eight words that the rounds after the next read.
 fn all_rounds(w: &mut [u32; 64], s: State) -> State
     requires { ⌜ length (now w) ≡ 64 ⌝ }
     ensures { λ r. ⌜ r ≡ rounds 64 (schedule 48 (take 16 (now (w .entry)))) s ⌝ }
@@ -30,13 +30,14 @@ fn all_rounds(w: &mut [u32; 64], s: State) -> State
     let k = sha256_core::table();
     let mut n: usize = 0;
     let mut q = s;
-    while n < 6 {
+    while n < 8 {
         q = eight(&k, w, 8 * n, q);
-        sha256_block::eight_words(w, 16 + 8 * n);
+        if n < 6 {
+            sha256_block::eight_words(w, 16 + 8 * n);
+        }
         n += 1;
     }
-    let p = eight(&k, w, 48, q);
-    eight(&k, w, 56, p)
+    q
 }
 
 // The next hash value, from the block at `at`.
