@@ -132,6 +132,10 @@ int main() {
 
     // Powers of two, each twice over: every value is reached from 0.
     auto powers = [](uint8_t *ops, size_t i) { put(ops, i, 1, 0, 1 << (i % 8)); };
+    // An own add that fails from 100 on, where any other value differs: others that leave 100, and others of which the last leaves 255.
+    auto fails = [](uint8_t *ops, size_t i) { put(ops, i, 1, 0, 200); };
+    auto calm = [](uint8_t *ops, size_t i) { put(ops, i, 1 + i % 2, 0, 0); };
+    auto to_255 = [](uint8_t *ops, size_t i) { put(ops, i, i < 15 ? 1 : 4, 0, i < 15 ? 0 : 255); };
     std::vector<Case> cases = {
         make("16 others, 16 own add 0", 0, 16, powers, 16, [](uint8_t *o, size_t i) { put(o, i, 1, 0, 0); }),
         make("16 others, 16 own take 0", 0, 16, powers, 16, [](uint8_t *o, size_t i) { put(o, i, 2, 0, 0); }),
@@ -145,9 +149,15 @@ int main() {
         make("16 others, 16 own reads: yes", 0, 16, powers, 16, [](uint8_t *o, size_t i) { put(o, i, 3, 0, 0); }),
         make("16 others, 1 own: yes, at 255", 0, 16, [](uint8_t *o, size_t i) { put(o, i, i < 15 ? 4 : 1, 0, i < 15 ? 0 : 255); },
              1, [](uint8_t *o, size_t i) { put(o, i, 3, 0, 0); }),
+        make("16 others, 16 own that fail", 100, 16, calm, 16, fails),
+        make("31 others, 1 own that fails", 100, 31, calm, 1, fails),
+        make("1 other, 31 own that fail", 100, 1, calm, 31, fails),
+        make("16, 1 own that fails: yes, at 255", 100, 16, to_255, 1, fails),
+        make("16, 16 own that fail: yes, at 255", 100, 16, to_255, 16, fails),
+        make("32 others, 32 own that fail *", 100, 32, calm, 32, fails),
         make("32 others, 32 own take 0 *", 0, 32, powers, 32, [](uint8_t *o, size_t i) { put(o, i, 2, 0, 0); }),
     };
-    printf("%-30s %8s %12s %6s %10s %6s\n", "microseconds a call", "proved", "C++ shifts", "ratio", "C++ values", "ratio");
+    printf("%-34s %8s %12s %6s %10s %6s\n", "microseconds a call", "proved", "C++ shifts", "ratio", "C++ values", "ratio");
     double worst = 0, to_shifts = 0, to_values = 0;
     for (const Case &c : cases) {
         if (proved(c) != whole(values, c) || proved(c) != whole(shifts<Op>, c)) {
@@ -155,7 +165,7 @@ int main() {
             return 1;
         }
         Times t = timed(c);
-        printf("%-30s %8.2f %12.2f %6.2f %10.2f %6.2f\n", c.name, t.proved, t.shifts, t.proved / t.shifts, t.values, t.proved / t.values);
+        printf("%-34s %8.2f %12.2f %6.2f %10.2f %6.2f\n", c.name, t.proved, t.shifts, t.proved / t.shifts, t.values, t.proved / t.values);
         to_shifts = std::max(to_shifts, t.proved / t.shifts);
         to_values = std::max(to_values, t.proved / t.values);
         if (c.n + c.m <= 32) worst = std::max(worst, t.proved);

@@ -6,10 +6,11 @@
 
 using Set = std::bitset<256>;
 
+// An add or take that fails answers 256 plus the cell's value.
 template <class Op> int response(const Op &e, int v) {
     switch (e.kind) {
-    case 1: return v + e.amount <= 255;
-    case 2: return e.amount <= v;
+    case 1: return v + e.amount <= 255 ? 1 : 256 + v;
+    case 2: return e.amount <= v ? 1 : 256 + v;
     case 3: return v;
     default: return 1;
     }
@@ -44,11 +45,13 @@ template <class Op> Set moved(const Set &s, const Op &e) {
     }
 }
 
+// Whether one of the values has another response than u: one that fails where u succeeds, any other where u fails or is read.
 template <class Op> bool differs(const Set &s, const Op &e, int u) {
+    auto but_u = [&] { return Set(s).reset(u).any(); };
     switch (e.kind) {
-    case 1: return (u + e.amount <= 255 ? s & ~low(256 - e.amount) : s & low(256 - e.amount)).any();
-    case 2: return (e.amount <= u ? s & low(e.amount) : s & ~low(e.amount)).any();
-    case 3: return Set(s).reset(u).any();
+    case 1: return u + e.amount <= 255 ? (s & ~low(256 - e.amount)).any() : but_u();
+    case 2: return e.amount <= u ? (s & low(e.amount)).any() : but_u();
+    case 3: return but_u();
     default: return false;
     }
 }

@@ -60,6 +60,10 @@ enum {
 /* kinds of operations */
 enum { COP_ADD = 1, COP_TAKE = 2, COP_READ = 3, COP_SET = 4 };
 
+/* responses: 1 of a set and of an add or take that succeeds, the cell of a read (0 to 255), and COP_FAILED plus what the cell
+   holds of an add or take that fails and changes nothing */
+enum { COP_FAILED = 256, COP_RESPONSE_MOST = 511 };
+
 /* statuses, as a confirmation brings them */
 enum { COP_ASIDE = 0, COP_DONE = 1 };
 

@@ -13,7 +13,7 @@ three bytes each: kind, cell and amount; `-` for none.
 """
 import os, random, sys
 
-from cop import ADD, READ, SET, TAKE, Entry, conflict, conflict_by_definition
+from cop import ADD, READ, SET, TAKE, Entry, choices, conflict, conflict_by_definition, mixtures, own_answers
 
 
 def entries(ops):
@@ -26,6 +26,16 @@ def by_definition(cells, others, own):
 
 def by_search(cells, others, own):
     return conflict(entries(others), entries(own), tuple(cells))
+
+
+def before_q1(cells, others, own):
+    """The answer before document 02's Q-1, when a failed add or take answered 0: by trying everything."""
+
+    def told(mixed):
+        return [answer if answer < 256 else 0 for answer in own_answers(mixed, tuple(cells))]
+
+    alone = told([(entry, True) for entry in entries(own)])
+    return any(told(mixed) != alone for chosen in choices(entries(others)) for mixed in mixtures(chosen, entries(own)))
 
 
 def one(v):
@@ -44,6 +54,26 @@ def random_case(rng, most):
     return held, [some_op(rng, cells, wide) for _ in range(rng.randint(0, most))], [some_op(rng, cells, wide) for _ in range(rng.randint(1, most))]
 
 
+def turned():
+    """Cases that Q-1 turns from "no" to "yes": an own add or take fails at two values."""
+    yield one(7), [(TAKE, 0, 2)], [(TAKE, 0, 8)]
+    yield one(7), [(ADD, 0, 1)], [(TAKE, 0, 255)]
+    yield one(250), [(TAKE, 0, 1)], [(ADD, 0, 10)]
+    yield one(255), [(TAKE, 0, 1)], [(ADD, 0, 2)]
+    yield one(254), [(SET, 0, 255)], [(ADD, 0, 2)]
+    yield one(0), [(SET, 0, 1)], [(TAKE, 0, 2)]
+    yield one(7), [(ADD, 0, 3), (TAKE, 0, 3)], [(TAKE, 0, 20)]
+    yield one(7), [(SET, 0, 7), (SET, 0, 6), (SET, 0, 7)], [(TAKE, 0, 8)]
+    yield one(7), [(TAKE, 0, 8), (TAKE, 0, 7)], [(TAKE, 0, 9)]
+    yield one(7), [(TAKE, 0, 1)], [(TAKE, 0, 5), (TAKE, 0, 4)]
+    yield one(7), [(ADD, 0, 1)], [(TAKE, 0, 20), (TAKE, 0, 20)]
+    yield one(7), [(SET, 0, 6)], [(SET, 0, 5), (TAKE, 0, 9), (SET, 0, 7)]
+    yield one(7), [(ADD, 1, 1), (ADD, 0, 1)], [(TAKE, 1, 0), (TAKE, 0, 20)]
+    for cell in range(16):
+        yield [7] * 16, [(TAKE, cell, 2)], [(TAKE, cell, 8)]
+        yield [250] * 16, [(TAKE, cell, 2)], [(ADD, cell, 9)]
+
+
 def cases():
     rng = random.Random(1)
     # document 01's own
@@ -56,6 +86,12 @@ def cases():
     yield one(7), [(ADD, 1, 3)], [(READ, 0, 0)]
     yield one(7), [], [(TAKE, 0, 5)]
     yield one(250), [(ADD, 0, 6), (TAKE, 0, 6)], [(READ, 0, 0)]
+    # an own failure, with others that turn it to "yes" and with others that leave its value
+    yield from turned()
+    yield one(7), [(SET, 0, 7)], [(TAKE, 0, 8)]
+    yield one(7), [(ADD, 0, 0), (TAKE, 0, 0), (READ, 0, 0)], [(TAKE, 0, 8), (ADD, 0, 250)]
+    yield one(7), [(TAKE, 0, 8), (ADD, 0, 249)], [(TAKE, 0, 8)]
+    yield [7] * 16, [(TAKE, 1, 2)], [(TAKE, 0, 8)]
     # every kind against every kind
     for theirs in range(1, 5):
         for mine in range(1, 5):
@@ -89,6 +125,16 @@ def cases():
     yield [0] * 16, [(ADD, i % 8, 1) for i in range(32)], [(READ, 8 + i % 8, 0) for i in range(32)]
     yield [253] * 16, [(ADD, i % 16, 1) for i in range(16)], [(ADD, i % 16, 1) for i in range(32)]
     yield [254] * 16, [(ADD, i % 16, 1) for i in range(16)], [(ADD, i % 16, 1) for i in range(32)]
+    # full lists with own failures: others that leave the value, then that change it once, first or last, and found at 255
+    still = [(ADD, 0, 0), (TAKE, 0, 0), (READ, 0, 0), (SET, 0, 100), (ADD, 0, 200)]
+    calm = [still[i % 5] for i in range(31)]
+    for fails in ([(ADD, 0, 200)] * 32, [(TAKE, 0, 101)] * 32, [(ADD, 0, 200)]):
+        yield one(100), calm + [(READ, 0, 0)], fails
+        yield one(100), calm + [(SET, 0, 101)], fails
+        yield one(100), [(TAKE, 0, 1)] + calm, fails
+        yield one(100), calm + [(SET, 0, 255)], fails
+    yield one(100), calm, [(ADD, 0, 0)] * 31 + [(ADD, 0, 200)]
+    yield one(100), calm + [(ADD, 0, 1)], [(ADD, 0, 0)] * 31 + [(ADD, 0, 200)]
     for k in range(30):
         amounts = ([0, 1], [0, 1, 2, 3], list(range(256)))[k % 3]
         cells = rng.choice([1, 4, 16])
@@ -112,17 +158,22 @@ def main():
     for _ in range(3000):
         case = random_case(rng, 4)
         assert by_search(*case) == by_definition(*case), line(case)
-    given, expected = [], []
+    for case in turned():
+        assert by_definition(*case) and not before_q1(*case), line(case)
+    given, expected, changed = [], [], 0
     for case in cases():
         answer = by_search(*case)
         if len(case[1]) + len(case[2]) <= 9:
             assert answer == by_definition(*case), line(case)
+            earlier = before_q1(*case)
+            assert answer or not earlier, line(case)  # no case goes from "yes" to "no"
+            changed += answer != earlier
         given.append(line(case))
         expected.append("yes" if answer else "no")
     root = os.path.join(os.path.dirname(os.path.abspath(__file__)), "..", "crates", "conflict_cases")
     texts = {"stdin": "\n".join(given) + "\n", "stdout": "\n".join(expected) + "\n"}
     assert len(texts["stdin"]) <= 65536
-    print("%d cases, %d of them conflicts, %d bytes" % (len(given), expected.count("yes"), len(texts["stdin"])))
+    print("%d cases, %d of them conflicts, %d by Q-1, %d bytes" % (len(given), expected.count("yes"), changed, len(texts["stdin"])))
     for name, text in texts.items():
         path = os.path.join(root, name)
         if "--check" in sys.argv:

@@ -64,11 +64,12 @@ def status_allowed(status):
 
 
 def run_on_value(entry, value):
-    """The table: what an entry answers at a cell's value, and the value after it."""
+    """The table: what an entry answers at a cell's value, and the value after it. "A failed add or take answers
+    256 plus the cell's value." (document 02, Q-1)"""
     if entry.kind == ADD:
-        return (1, value + entry.amount) if value + entry.amount <= 255 else (0, value)
+        return (1, value + entry.amount) if value + entry.amount <= 255 else (256 + value, value)
     if entry.kind == TAKE:
-        return (1, value - entry.amount) if value >= entry.amount else (0, value)
+        return (1, value - entry.amount) if value >= entry.amount else (256 + value, value)
     if entry.kind == READ:
         return value, value
     assert entry.kind == SET

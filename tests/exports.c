@@ -70,7 +70,19 @@ static void client(void) {
     memcpy(bad, br, COP_BR), bad[15] ^= 1, q = r, broadcast(bad);
     EXPECT(halted(cop_receive(&q, bad, COP_BR, co, sizeof co), COP_HALT_CHAIN));
     EXPECT(is(cop_receive(&r, br, COP_BR, co, 0), COP_CONFIRMED, 0, 1, COP_DONE) && r.cells[15] == 7 && r.confirmed == 1 && r.held == 0);
-    EXPECT(halted(cop_receive(&r, br, COP_BR, co, 0), COP_HALT_SEQ) && r.halt == COP_HALT_SEQ);
+    q = r;
+    EXPECT(halted(cop_receive(&q, br, COP_BR, co, 0), COP_HALT_SEQ) && q.halt == COP_HALT_SEQ);
+
+    /* an add and a take that fail bring what the cell holds */
+    EXPECT(is(cop_invoke(&r, COP_TAKE, 15, 8, in, sizeof in), COP_INVOKED, 0, 2, 0));
+    EXPECT(is(cop_serve(&s, 1, in, sizeof in, re, sizeof re), COP_PLACED, 0, 2, 0));
+    EXPECT(is(cop_receive(&r, re, 44, co, sizeof co), COP_RESPONDED, 0, 2, COP_FAILED + 7));
+    EXPECT(is(cop_serve(&s, 1, co, sizeof co, br, sizeof br), COP_BROADCAST, 0, 1, 0));
+    EXPECT(is(cop_receive(&r, br, COP_BR, co, 0), COP_CONFIRMED, 0, 2, COP_DONE) && r.cells[15] == 7);
+    r.cells[15] = 255;
+    EXPECT(is(cop_invoke(&r, COP_ADD, 15, 1, in, sizeof in), COP_INVOKED, 0, 3, 0));
+    EXPECT(is(cop_serve(&s, 1, in, sizeof in, re, sizeof re), COP_PLACED, 0, 3, 0));
+    EXPECT(is(cop_receive(&r, re, 44, co, sizeof co), COP_RESPONDED, 0, 3, COP_RESPONSE_MOST));
 }
 
 static void relay(void) {

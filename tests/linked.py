@@ -147,7 +147,7 @@ class State:
 
 
 class Library:
-    """Calls on both. `seen` counts the outcomes, `calls` the calls."""
+    """Calls on both. `seen` counts the outcomes (`failed`: the answer of an add or take that failed), `calls` the calls."""
 
     def __init__(self, path):
         lib = self.lib = ctypes.CDLL(path)
@@ -171,7 +171,8 @@ class Library:
 
     def count(self, call, outcome):
         self.calls += 1
-        what = (call, outcome[0], outcome[1] if outcome[0] in ("no", "halt") else 0)
+        word = "failed" if outcome[0] == "answer" and outcome[2] >= 256 else outcome[0]
+        what = (call, word, outcome[1] if word in ("no", "halt") else 0)
         self.seen[what] = self.seen.get(what, 0) + 1
 
     def same(self, what, got, expected):

@@ -177,26 +177,38 @@ def every_kind(s):
     w = World(s)
     for kind, amount, answer in (
         (ADD, 250, 1),
-        (ADD, 6, 0),
+        (ADD, 6, 506),
         (READ, 0, 250),
         (ADD, 5, 1),
         (READ, 0, 255),
         (TAKE, 248, 1),
-        (TAKE, 8, 0),
+        (TAKE, 8, 263),
         (TAKE, 7, 1),
         (READ, 0, 0),
         (SET, 255, 1),
         (ADD, 0, 1),
         (TAKE, 0, 1),
-        (ADD, 1, 0),
+        (ADD, 1, 511),
         (SET, 0, 1),
-        (TAKE, 1, 0),
+        (TAKE, 1, 256),
     ):
         w.make(3, kind, 15, amount)
         outcome = w.deliver(3)
         assert outcome[0] == "answer" and outcome[2] == answer, outcome
         w.deliver(3)
     w.deliver_all()
+
+
+def last_outcome(s, value, others, own):
+    """Van 1 makes the own entries one after the other, with the others' of van 2 before them, where cell 0 holds the value."""
+    s.open(0, 1, KEYS)
+    s.change(0, "cells", value)
+    items = [item(Entry(k, *other), 2) for k, other in enumerate(others, 1)]
+    for count, (kind, cell, amount) in enumerate(own, 1):
+        s.make(0, kind, cell, amount)
+        items.append(item(Entry(count, kind, cell, amount), 1))
+        outcome, _ = s.take(0, cop.re_message(items))
+    return outcome
 
 
 def conflicts(s):
@@ -212,14 +224,23 @@ def conflicts(s):
         (7, [], [(TAKE, 0, 5), (TAKE, 0, 4)], "answer"),
         (250, [(ADD, 0, 6), (TAKE, 0, 6)], [(READ, 0, 0)], "aside"),
     ):
-        s.open(0, 1, KEYS)
-        s.change(0, "cells", value)
-        items = [item(Entry(k, *other), 2) for k, other in enumerate(others, 1)]
-        for count, (kind, cell, amount) in enumerate(own, 1):
-            s.make(0, kind, cell, amount)
-            items.append(item(Entry(count, kind, cell, amount), 1))
-            outcome, _ = s.take(0, cop.re_message(items))
-        assert outcome[0] == word, (others, own)
+        assert last_outcome(s, value, others, own)[0] == word, (others, own)
+    s.note("An own entry that fails answers 256 plus the cell, so that any other value conflicts; van 2's entries wait")
+    for value, others, own, last in (
+        (7, [(TAKE, 0, 2)], [(TAKE, 0, 8)], "aside"),
+        (7, [(ADD, 0, 1)], [(TAKE, 0, 255)], "aside"),
+        (250, [(SET, 0, 251)], [(ADD, 0, 6)], "aside"),
+        (255, [(TAKE, 0, 3), (ADD, 0, 3)], [(ADD, 0, 9)], "aside"),
+        (7, [(TAKE, 0, 1)], [(TAKE, 0, 5), (TAKE, 0, 4)], "aside"),
+        (7, [(ADD, 0, 1)], [(TAKE, 0, 5), (TAKE, 0, 4)], "aside"),
+        (7, [(SET, 0, 7)], [(TAKE, 0, 8)], 263),
+        (7, [(TAKE, 0, 8)], [(TAKE, 0, 8)], 263),
+        (7, [(ADD, 0, 0), (TAKE, 1, 1)], [(TAKE, 0, 8)], 263),
+        (7, [], [(TAKE, 0, 5), (TAKE, 0, 4)], 258),
+        (7, [], [(ADD, 0, 249), (TAKE, 0, 8), (SET, 0, 0), (TAKE, 0, 1)], 256),
+    ):
+        outcome = last_outcome(s, value, others, own)
+        assert outcome[0] == last or outcome[2:] == (last,), (others, own, outcome)
     s.note("Each cell: another's set of it, and of the next one, before an own read")
     for cell in range(16):
         for other, word in ((cell, "aside"), ((cell + 1) % 16, "answer")):

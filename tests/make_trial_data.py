@@ -93,10 +93,18 @@ def drawn():
 PROGRAMS = {
     "trial": (listing, ("placed", "answer", "aside", "confirm")),
     "trial_pending": (pending, ("placed", "answer", "confirm", "empty", "no 4", "no 33")),
-    "trial_full": (full, ("placed", "answer", "confirm", "empty", "full", "bad")),
+    "trial_full": (full, ("placed", "answer", "failed", "confirm", "empty", "full", "bad")),
     "trial_bad": (bad, ("placed", "answer", "confirm", "empty", "no 5", "bad")),
-    "trial_drawn": (drawn, ("placed", "answer", "aside", "confirm", "empty", "no 4", "no 5", "bad")),
+    "trial_drawn": (drawn, ("placed", "answer", "failed", "aside", "confirm", "empty", "no 4", "no 5", "bad")),
 }
+
+
+def kind_of(line):
+    """The word of a printed line; `no` with its number; `failed` for the answer of an add or take that failed."""
+    word, *data = line.split()[2:]
+    if word == "no":
+        return "no " + data[0]
+    return "failed" if word == "answer" and int(data[1]) >= 256 else word
 
 
 def main():
@@ -104,7 +112,7 @@ def main():
     for name, (make, wanted) in PROGRAMS.items():
         data = make()
         printed = run(lines_of(data))
-        words = {" ".join(line.split()[2 : 4 if " no " in line else 3]) for line in printed}
+        words = {kind_of(line) for line in printed}
         assert set(wanted) <= words, (name, set(wanted) - words)
         (crates / name).mkdir(parents=True, exist_ok=True)
         (crates / name / "stdin").write_bytes(data)

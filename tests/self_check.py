@@ -1,4 +1,4 @@
-"""Checks cop.py and trial.py: document 01's cases, its trial listing, the two conflict tests against each
+"""Checks cop.py and trial.py: document 01's cases (with document 02's answers), its trial listing, the two conflict tests against each
 other, and what the document says of whole runs, on drawn schedules. `python3 tests/self_check.py`."""
 
 import cop
@@ -18,11 +18,13 @@ def entries(*pairs, cell=0):
 def table_cases():
     for value, kind, amount, answer, after in (
         (250, ADD, 5, 1, 255),
-        (250, ADD, 6, 0, 250),
+        (250, ADD, 6, 506, 250),
         (7, TAKE, 7, 1, 0),
-        (7, TAKE, 8, 0, 7),
+        (7, TAKE, 8, 263, 7),
         (7, READ, 0, 7, 7),
         (7, SET, 9, 1, 9),
+        (255, ADD, 1, 511, 255),
+        (0, TAKE, 1, 256, 0),
     ):
         for cell in range(16):
             assert cop.run(Entry(1, kind, cell, amount), cells_with(value, cell)) == (answer, cells_with(after, cell))
@@ -41,6 +43,9 @@ def conflict_cases():
         (7, entries((SET, 9), cell=1), entries((READ, 0)), False),
         (7, [], entries((TAKE, 5), (TAKE, 4), (READ, 0)), False),
         (250, entries((ADD, 6), (TAKE, 6)), entries((READ, 0)), True),
+        (7, entries((TAKE, 2)), entries((TAKE, 8)), True),
+        (7, entries((SET, 7)), entries((TAKE, 8)), False),
+        (7, entries((TAKE, 8)), entries((TAKE, 8)), False),
     ):
         for test in (cop.conflict_by_definition, cop.conflict):
             assert test(others, own, cells_with(value)) == expected, (value, others, own)

@@ -69,10 +69,11 @@ pub fn decide(r: Replica, m: &[u8], n: usize) -> Verdict
     let others = l.others;
     let mut own = l.own;
     let q = l.m;
-    let after = operation_run::run_all(own, q, cells);
     own[q] = current;
+    let all = q + 1;
+    let before = operation_run::run_all(own, q, cells);
     Verdict {
-        aborted: conflict::conflict(cells, others, l.n, own, q + 1),
-        response: operation_run::response_on(current, after),
+        aborted: conflict::conflict(cells, others, l.n, own, all),
+        response: operation_run::response_on(current, before),
     }
 }

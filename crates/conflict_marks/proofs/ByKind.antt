@@ -5,8 +5,9 @@ use mathlib.Core.Bool.{Bool, true, false}
 use native.Mathlib.Decide.{decLt}
 use native.Mathlib.Omega.{arith}
 use borrow.Author.Tests.{eq-eqb, ne-eqb, le-leb, lt-leb}
+use lib.Dec.{eqb}
 use Rattle.operation.specs.declared.Operation.{Operation}
-use Rattle.operation.specs.Operation.{value, response}
+use Rattle.operation.specs.Operation.{value, failed, response}
 use Rattle.conflict_marks.specs.Marks.{movedFrom, SameSpan}
 
 -- What each kind makes of a value.
@@ -39,7 +40,7 @@ pub response-add : (e : Operation) (v : ℕ) → e .kind ≡ 1 → v + e .amount
 unfolding response
 response-add e v k h = simp (eq-eqb (e .kind) 1 k, le-leb (v + e .amount) 255 h)
 
-pub response-full : (e : Operation) (v : ℕ) → e .kind ≡ 1 → 255 < v + e .amount → response e v ≡ 0
+pub response-full : (e : Operation) (v : ℕ) → e .kind ≡ 1 → 255 < v + e .amount → response e v ≡ failed v
 unfolding response
 response-full e v k h = simp (eq-eqb (e .kind) 1 k, lt-leb (v + e .amount) 255 h)
 
@@ -47,7 +48,7 @@ pub response-take : (e : Operation) (v : ℕ) → e .kind ≡ 2 → e .amount �
 unfolding response
 response-take e v k h = simp (k, le-leb (e .amount) v h)
 
-pub response-short : (e : Operation) (v : ℕ) → e .kind ≡ 2 → v < e .amount → response e v ≡ 0
+pub response-short : (e : Operation) (v : ℕ) → e .kind ≡ 2 → v < e .amount → response e v ≡ failed v
 unfolding response
 response-short e v k h = simp (k, lt-leb (e .amount) v h)
 
@@ -97,14 +98,6 @@ span-add e u k h = record {
   only = λ v l q. (omega arith, omega (arith, fits-too e u v k q h));
 }
 
-pub span-full : (e : Operation) (u : ℕ) → e .kind ≡ 1 → 255 < u + e .amount → SameSpan e u (256 - e .amount) 256
-span-full e u k h = record {
-  low = omega arith;
-  high = omega arith;
-  same = λ v a b. response-full e v k (omega arith) ∙ sym (response-full e u k h);
-  only = λ v l q. (omega (arith, full-too e u v k q h), l);
-}
-
 pub span-take : (e : Operation) (u : ℕ) → e .kind ≡ 2 → e .amount < 256 → e .amount ≤ u → SameSpan e u (e .amount) 256
 span-take e u k s h = record {
   low = omega arith;
@@ -113,21 +106,23 @@ span-take e u k s h = record {
   only = λ v l q. (enough-too e u v k q h, l);
 }
 
-pub span-short : (e : Operation) (u : ℕ) → e .kind ≡ 2 → e .amount < 256 → u < e .amount → SameSpan e u 0 (e .amount)
-span-short e u k s h = record {
-  low = omega arith;
-  high = omega arith;
-  same = λ v a b. response-short e v k b ∙ sym (response-short e u k h);
-  only = λ v l q. (omega arith, short-too e u v k q h);
-}
-
-pub span-read : (e : Operation) (u : ℕ) → e .kind ≡ 3 → u < 256 → SameSpan e u u (u + 1)
-span-read e u k h = record {
+-- Where another value has another response.
+span-one : (e : Operation) (u : ℕ) → u < 256 → ((v : ℕ) → response e v ≡ response e u → v ≡ u) → SameSpan e u u (u + 1)
+span-one e u h one = record {
   low = omega arith;
   high = omega arith;
   same = λ v a b. let p : v ≡ u = omega arith in ap (response e) p;
-  only = λ v l q. let p : v ≡ u = sym (response-read e v k) ∙ q ∙ response-read e u k in (omega arith, omega arith);
+  only = λ v l q. let p = one v q in (omega arith, omega arith);
 }
+
+pub span-full : (e : Operation) (u : ℕ) → e .kind ≡ 1 → u < 256 → 255 < u + e .amount → SameSpan e u u (u + 1)
+span-full e u k s h = span-one e u s (λ v q. omega (arith, response-full e v k (full-too e u v k q h), response-full e u k h, q))
+
+pub span-short : (e : Operation) (u : ℕ) → e .kind ≡ 2 → u < 256 → u < e .amount → SameSpan e u u (u + 1)
+span-short e u k s h = span-one e u s (λ v q. omega (arith, response-short e v k (short-too e u v k q h), response-short e u k h, q))
+
+pub span-read : (e : Operation) (u : ℕ) → e .kind ≡ 3 → u < 256 → SameSpan e u u (u + 1)
+span-read e u k s = span-one e u s (λ v q. sym (response-read e v k) ∙ q ∙ response-read e u k)
 
 pub span-set : (e : Operation) (u : ℕ) → (e .kind ≡ 1 → ⊥) → (e .kind ≡ 2 → ⊥) → (e .kind ≡ 3 → ⊥) → SameSpan e u 0 256
 span-set e u a b c = record {
@@ -149,6 +144,9 @@ from-take e k = simp k
 pub from-none : (e : Operation) → movedFrom e false ≡ 256
 unfolding movedFrom
 from-none e = refl
+
+pub from-failed : (e : Operation) (u : ℕ) → movedFrom e (eqb (failed u) 1) ≡ 256
+from-failed e u = rw (ne-eqb (failed u) 1 (λ q. omega (arith, q))) (from-none e)
 
 pub from-other : (e : Operation) (b : Bool) → (e .kind ≡ 1 → ⊥) → (e .kind ≡ 2 → ⊥) → movedFrom e b ≡ 256
 unfolding movedFrom

@@ -13,7 +13,7 @@ use Rattle.operation.specs.declared.Operation.{Operation}
 use Rattle.operation.specs.Operation.{value, response}
 use Rattle.conflict_marks.specs.Marks.{Has, Laid, Joined, Ran, movedFrom, Moved, marksAt}
 use Rattle.conflict_marks.proofs.Stored.{below}
-use Rattle.conflict_marks.proofs.ByKind.{value-add, value-full, value-take, value-short, value-set, value-read, response-add, response-full, response-take, response-short, fits-too, full-too, enough-too, short-too, from-add, from-take, from-none, from-other}
+use Rattle.conflict_marks.proofs.ByKind.{value-add, value-full, value-take, value-short, value-set, value-read, response-add, response-full, response-take, response-short, fits-too, full-too, enough-too, short-too, from-add, from-take, from-failed, from-other}
 
 -- What an operation makes of marks that are laid out.
 pub joined-moved : {e : Operation} {at : ℕ} {s p t r : List Bool} → length s ≡ 256 → Laid s p → Joined 256 at p t r
@@ -80,7 +80,7 @@ own-moved {e} u {at} {s} {p} {t} {r} ls y q same h = go (ℕ-discrete (e .kind) 
       where
         part : Dec (255 < u + e .amount) → Moved e s t r
         part (yes l) =
-            let z : at ≡ 256 = q ∙ rw (response-full e u k l) (from-none e) in
+            let z : at ≡ 256 = q ∙ rw (response-full e u k l) (from-failed e u) in
             alike n (λ v lv o. let w = value-full e v k (full-too e u v k (same v o) l) in (omega (arith, w), omega (arith, w, z)))
         part (no f) =
             let i : u + e .amount ≤ 255 = omega arith in
@@ -90,7 +90,7 @@ own-moved {e} u {at} {s} {p} {t} {r} ls y q same h = go (ℕ-discrete (e .kind) 
       where
         part : Dec (u < e .amount) → Moved e s t r
         part (yes l) =
-            let z : at ≡ 256 = q ∙ rw (response-short e u k l) (from-none e) in
+            let z : at ≡ 256 = q ∙ rw (response-short e u k l) (from-failed e u) in
             alike n (λ v lv o. let w = value-short e v k (short-too e u v k (same v o) l) in (omega (arith, w), omega (arith, w, z)))
         part (no f) =
             let i : e .amount ≤ u = omega arith in

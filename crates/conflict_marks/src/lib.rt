@@ -70,29 +70,28 @@ pub struct Span {
     pub hi: usize,
 }
 
-// The values whose response is that of u.
+// The values whose response is that of u: all that succeed, where an add or take does at u; only u, where it fails
+// (the response has the value) and of a read; all of a set.
 pub fn same_span(e: Operation, u: u8) -> Span
     ensures { λ r. ⌜ SameSpan e u (r .lo) (r .hi) ⌝ }
 {
     let a = e.amount as usize;
     let v = u as usize;
+    let only = Span { lo: v, hi: v + 1 };
     if e.kind == 1 {
         if v + a <= 255 {
             return Span { lo: 0, hi: 256 - a };
         }
-        return Span {
-            lo: 256 - a,
-            hi: 256,
-        };
+        return only;
     }
     if e.kind == 2 {
         if a <= v {
             return Span { lo: a, hi: 256 };
         }
-        return Span { lo: 0, hi: a };
+        return only;
     }
     if e.kind == 3 {
-        return Span { lo: v, hi: v + 1 };
+        return only;
     }
     Span { lo: 0, hi: 256 }
 }

@@ -2,7 +2,7 @@
 ghost use mathlib.Core.Path.{_≡_};
 ghost use Prim.Native.Nat.{_+_, _≤_};
 ghost use lib.ListN.{take, getD};
-ghost use Rattle.operation.specs.Operation.{maxPending, value, response, after, responseOn, effect, runAll};
+ghost use Rattle.operation.specs.Operation.{maxPending, value, failed, response, after, responseOn, effect, runAll};
 use operation::Cells;
 use operation::Operation;
 use operation::Response;
@@ -28,6 +28,13 @@ pub fn value_after(e: Operation, v: u8) -> u8
     }
 }
 
+// The response of an add or take that fails, where its cell holds `v`.
+fn failed_at(v: u8) -> Response
+    ensures { λ r. ⌜ r ≡ failed v ⌝ }
+{
+    256 + v as u16
+}
+
 // The operation's response, where its cell holds `v`.
 pub fn response_to(e: Operation, v: u8) -> Response
     ensures { λ r. ⌜ r ≡ response e v ⌝ }
@@ -38,10 +45,10 @@ pub fn response_to(e: Operation, v: u8) -> Response
         if v as u32 + amount as u32 <= 255 {
             1
         } else {
-            0
+            failed_at(v)
         }
     } else if kind == 2 {
-        if amount <= v { 1 } else { 0 }
+        if amount <= v { 1 } else { failed_at(v) }
     } else if kind == 3 {
         v as u16
     } else {

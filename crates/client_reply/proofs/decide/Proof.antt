@@ -1,6 +1,9 @@
 use Prim.Native.Nat.{_<_}
-use mathlib.Core.Path.{_∙_}
-use lib.ListN.{length}
+use mathlib.Core.Path.{_≡_, ap, _∙_}
+use native.Mathlib.Omega.{arith}
+use lib.ListN.{length, take}
+use lib.Seq.{take-set-le}
+use Rattle.operation.specs.Operation.{runAll}
 use Rattle.client_reply.specs.Lists.{lists}
 use Rattle.client_reply.proofs.Laws.{take-set-more, aborted-is, response-is}
 use borrow.Author.Needs.{needs}
@@ -13,17 +16,17 @@ sub-sort-to c = search needs
 sort-to-requires : tie.Need-sort-to-requires
 sort-to-requires c κs = search needs
 
-run-all-requires : tie.Need-run-all-requires
-run-all-requires c κs = search needs
-
 mul-own : tie.Need-mul-own
 mul-own c = search needs
 
 array-set-from-own : tie.Need-array-set-from-own
 array-set-from-own c = search needs
 
-add-conflict : tie.Need-add-conflict
-add-conflict c = search needs
+add-all : tie.Need-add-all
+add-all c = search needs
+
+run-all-requires : tie.Need-run-all-requires
+run-all-requires c κs = search needs
 
 conflict-requires : tie.Need-conflict-requires
 conflict-requires c κs = search needs
@@ -36,10 +39,14 @@ returns c =
     let a = c .before .before .before .before .before .before .before .before .before .before .args in
     let e = c .before .before .before .before .before .before .before .before .before .before .pre .0 in
     let s = c .before .before .before .before .before .sort-to in
-    let h : s .result .m < length (s .result .own) = search needs in (
+    let q = s .result .m in
+    let own = s .result .own in
+    let h : q < length own = search needs in
+    let ran : c .before .before .run-all .result ≡ runAll (take q own) (a .r .cells) =
+    c .before .before .run-all .ensures ∙ ap (λ l. runAll l (a .r .cells)) (take-set-le q own q (a .r .current) (omega arith)) in (
       c .before .conflict .ensures
-          ∙ rw (take-set-more (s .result .own) (s .result .m) (a .r .current) h) (aborted-is (a .r) (a .m .now) (a .n) e (lists (s .result)) (s .ensures .0)),
-      c .response-on .ensures ∙ rw (c .before .before .run-all .ensures) (response-is (a .r) (a .m .now) (a .n) e (lists (s .result)) (s .ensures .0)),
+          ∙ rw (take-set-more own q (a .r .current) h) (aborted-is (a .r) (a .m .now) (a .n) e (lists (s .result)) (s .ensures .0)),
+      c .response-on .ensures ∙ rw ran (response-is (a .r) (a .m .now) (a .n) e (lists (s .result)) (s .ensures .0)),
     )
 
 pub decide-spec : {M : Type 1} → statement M
@@ -48,10 +55,10 @@ decide-spec =
     (tie.spec
     sub-sort-to
     sort-to-requires
-    run-all-requires
     mul-own
     array-set-from-own
-    add-conflict
+    add-all
+    run-all-requires
     conflict-requires
     response-on-requires
     returns)

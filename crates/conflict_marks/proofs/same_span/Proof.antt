@@ -6,29 +6,26 @@ use Rattle.conflict_marks.proofs.same_span.Tie as tie
 cast-a : tie.Need-cast-a
 cast-a c = search needs
 
+add-t6 : tie.Need-add-t6
+add-t6 c = search needs
+
 add-if2 : tie.Need-add-if2
 add-if2 c = search needs
 
-sub-t8 : tie.Need-sub-t8
-sub-t8 c = search needs
+sub-t10 : tie.Need-sub-t10
+sub-t10 c = search needs
 
 returns : tie.Need-returns
 returns c = span-add _ _ (c .before .if1 .taken) (c .if2 .taken)
 
-sub-t6 : tie.Need-sub-t6
-sub-t6 c = search needs
-
 returns-2 : tie.Need-returns-2
-returns-2 c = span-full _ _ (c .before .if1 .taken) (c .if2 .left)
+returns-2 c = span-full _ _ (c .before .if1 .taken) (search needs) (c .if2 .left)
 
 returns-3 : tie.Need-returns-3
 returns-3 c = span-take _ _ (c .before .if3 .taken) (search needs) (c .if4 .taken)
 
 returns-4 : tie.Need-returns-4
 returns-4 c = span-short _ _ (c .before .if3 .taken) (search needs) (c .if4 .left)
-
-add-t10 : tie.Need-add-t10
-add-t10 c = search needs
 
 returns-5 : tie.Need-returns-5
 returns-5 c = span-read _ _ (c .if5 .taken) (search needs)
@@ -41,13 +38,12 @@ same-span-spec =
     tie.close
     (tie.spec
     cast-a
+    add-t6
     add-if2
-    sub-t8
+    sub-t10
     returns
-    sub-t6
     returns-2
     returns-3
     returns-4
-    add-t10
     returns-5
     returns-6)

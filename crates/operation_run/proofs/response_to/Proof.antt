@@ -10,13 +10,19 @@ cast-if2 c = search needs
 add-if2 : tie.Need-add-if2
 add-if2 c = search needs
 
+failed-at-requires : tie.Need-failed-at-requires
+failed-at-requires c κs = search needs
+
+failed-at-requires-2 : tie.Need-failed-at-requires-2
+failed-at-requires-2 c κs = search needs
+
 returns : tie.Need-returns
 unfolding response
 returns c = simp (eq-eqb _ _ (c .before .if1 .taken), le-leb _ _ (c .if2 .taken))
 
 returns-2 : tie.Need-returns-2
 unfolding response
-returns-2 c = simp (eq-eqb _ _ (c .before .if1 .taken), lt-leb _ _ (c .if2 .left))
+returns-2 c = simp (eq-eqb _ _ (c .before .before .if1 .taken), lt-leb _ _ (c .before .if2 .left)) (c .failed-at .ensures)
 
 returns-3 : tie.Need-returns-3
 unfolding response
@@ -24,7 +30,8 @@ returns-3 c = simp (ne-eqb _ _ (c .before .before .if1 .left), eq-eqb _ _ (c .be
 
 returns-4 : tie.Need-returns-4
 unfolding response
-returns-4 c = simp (ne-eqb _ _ (c .before .before .if1 .left), eq-eqb _ _ (c .before .if3 .taken), lt-leb _ _ (c .if4 .left))
+returns-4 c =
+    simp (ne-eqb _ _ (c .before .before .before .if1 .left), eq-eqb _ _ (c .before .before .if3 .taken), lt-leb _ _ (c .before .if4 .left)) (c .failed-at2 .ensures)
 
 returns-5 : tie.Need-returns-5
 unfolding response
@@ -36,4 +43,15 @@ returns-6 c = simp (ne-eqb _ _ (c .before .before .if1 .left), ne-eqb _ _ (c .be
 
 pub response-to-spec : {M : Type 1} → statement M
 response-to-spec =
-    tie.close (tie.spec cast-if2 add-if2 returns returns-2 returns-3 returns-4 returns-5 returns-6)
+    tie.close
+    (tie.spec
+    cast-if2
+    add-if2
+    failed-at-requires
+    failed-at-requires-2
+    returns
+    returns-2
+    returns-3
+    returns-4
+    returns-5
+    returns-6)
