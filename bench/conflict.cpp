@@ -132,7 +132,8 @@ int main() {
 
     // Powers of two, each twice over: every value is reached from 0.
     auto powers = [](uint8_t *ops, size_t i) { put(ops, i, 1, 0, 1 << (i % 8)); };
-    // An own add that fails from 100 on, where any other value differs: others that leave 100, and others of which the last leaves 255.
+    // An own add that fails from 100 on, where any other value differs: others that leave 100, and others of which the
+    // last leaves 255, so that the conflict is found at the last value (and, in the second such case, in the last row).
     auto fails = [](uint8_t *ops, size_t i) { put(ops, i, 1, 0, 200); };
     auto calm = [](uint8_t *ops, size_t i) { put(ops, i, 1 + i % 2, 0, 0); };
     auto to_255 = [](uint8_t *ops, size_t i) { put(ops, i, i < 15 ? 1 : 4, 0, i < 15 ? 0 : 255); };
@@ -152,8 +153,8 @@ int main() {
         make("16 others, 16 own that fail", 100, 16, calm, 16, fails),
         make("31 others, 1 own that fails", 100, 31, calm, 1, fails),
         make("1 other, 31 own that fail", 100, 1, calm, 31, fails),
-        make("16, 1 own that fails: yes, at 255", 100, 16, to_255, 1, fails),
-        make("16, 16 own that fail: yes, at 255", 100, 16, to_255, 16, fails),
+        make("16, 1 own that fails: yes", 100, 16, to_255, 1, fails),
+        make("16, 16 own, the last fails: yes", 100, 16, to_255, 16, [](uint8_t *o, size_t i) { put(o, i, 1, 0, i < 15 ? 0 : 200); }),
         make("32 others, 32 own that fail *", 100, 32, calm, 32, fails),
         make("32 others, 32 own take 0 *", 0, 32, powers, 32, [](uint8_t *o, size_t i) { put(o, i, 2, 0, 0); }),
     };

@@ -57,7 +57,7 @@ pub fn conflict_at(
             return false;
         }
         let o = others[i];
-        conflict_rows::widen(&mut reach, m, o);
+        conflict_rows::widen(&mut reach, &mut wide, m, o);
         i += 1;
     }
     true

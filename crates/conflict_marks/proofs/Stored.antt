@@ -91,8 +91,8 @@ pub record Laying (n : ℕ) (s p : List Bool) : Type 0 where
 pub none-laid : {s p : List Bool} → Blank p → Laying 0 s p
 none-laid b = record { long = b .long; middle = b .middle; same = λ v l. absurd (omega arith) }
 
-pub one-laid : {n : ℕ} {s p : List Bool} → Laying n s p → n < 256 → Laying (n + 1) s (set p (n + 256) (getD s n false))
-one-laid {n} {s} {p} y h = record { long = length-set p (n + 256) (getD s n false) ∙ y .long; middle = λ x o. middle x o (ℕ-discrete x (n + 256)); same = λ v l. same v l (ℕ-discrete v n) }
+one-same : {n : ℕ} {s p : List Bool} → Laying n s p → n < 256 → Laying (n + 1) s (set p (n + 256) (getD s n false))
+one-same {n} {s} {p} y h = record { long = length-set p (n + 256) (getD s n false) ∙ y .long; middle = λ x o. middle x o (ℕ-discrete x (n + 256)); same = λ v l. same v l (ℕ-discrete v n) }
   where
     middle : (x : ℕ) → Has (set p (n + 256) (getD s n false)) x → Dec (x ≡ n + 256) → (256 ≤ x) × (x < 512)
     middle x o (yes e) = (omega arith, omega arith)
@@ -101,6 +101,15 @@ one-laid {n} {s} {p} y h = record { long = length-set p (n + 256) (getD s n fals
     same : (v : ℕ) → v < n + 1 → Dec (v ≡ n) → getD (set p (n + 256) (getD s n false)) (v + 256) false ≡ getD s v false
     same v l (yes e) = rw e (getD-set-same p (n + 256) (getD s n false) false (omega (arith, y .long)))
     same v l (no f) = getD-set-other p (n + 256) (v + 256) (getD s n false) false (λ q. f (omega arith)) ∙ y .same v (omega arith)
+
+-- A mark joined with the unmarked place below.
+pub one-laid : {n : ℕ} {s p : List Bool} → Laying n s p → n < 256 → Laying (n + 1) s (set p (n + 256) (getD s n false || getD p n false))
+one-laid {n} {s} {p} y h = rw (blank (getD s n false) (getD p n false) (λ o. omega (arith, y .middle n o .0))) (one-same y h)
+  where
+    blank : (a b : Bool) → (b ≡ true → ⊥) → (a || b) ≡ a
+    blank true b f = refl
+    blank false true f = absurd (f refl)
+    blank false false f = refl
 
 pub all-laid : {s p : List Bool} → length s ≡ 256 → Laying 256 s p → Laid s p
 all-laid {s} {p} h y = record { long = y .long; has = λ v o. y .same v (below s v h o) ∙ o; only = only }

@@ -10,13 +10,15 @@ use operation::Operation;
 // Lays 256 marks out in the middle of 768 places; those below and above stay unmarked. So the marks of the values
 // below x are those of the 256 places from x on, those from x on are those of the 256 places from 256 + x on, and
 // marks that move by a are those of the 256 places from 256 - a, or 256 + a, on: each a loop of one fixed length.
+// (Each mark is joined with an unmarked place: a mere copy is compiled to a library call that reads the row in wider
+// pieces than it was just written in, and waits for them.)
 pub fn lay_out(wide: &mut [bool; 768], marks: &[bool; 256])
     requires { ⌜ (length (now marks) ≡ 256) × Blank (now wide) ⌝ }
     ensures { λ _. ⌜ Laid (now (marks .entry)) (now (wide .exit)) ⌝ }
 {
     let mut v = 0;
     while v < 256 {
-        wide[v + 256] = marks[v];
+        wide[v + 256] = marks[v] | wide[v];
         v += 1;
     }
 }

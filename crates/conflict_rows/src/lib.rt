@@ -36,20 +36,19 @@ pub fn any_other(wide: &[bool; 768], e: Operation, u: u8) -> bool
     below | above
 }
 
-// Adds to each of the first m + 1 what one of the others' operations makes of it. (A read makes nothing new.)
-pub fn widen(reach: &mut [[bool; 256]; 33], m: usize, e: Operation)
-    requires { ⌜ (m ≤ maxPending) × (length (now reach) ≡ 33) × ((j : ℕ) → j ≤ m → length (marksAt (now reach) j) ≡ 256) ⌝ }
-    ensures { λ _. ⌜ Widened m e (now (reach .entry)) (now (reach .exit)) ⌝ }
+// Adds to each of the first m + 1 what one of the others' operations makes of it, laid out in `wide`. (A read makes nothing new.)
+pub fn widen(reach: &mut [[bool; 256]; 33], wide: &mut [bool; 768], m: usize, e: Operation)
+    requires { ⌜ (m ≤ maxPending) × (length (now reach) ≡ 33) × ((j : ℕ) → j ≤ m → length (marksAt (now reach) j) ≡ 256) × Blank (now wide) ⌝ }
+    ensures { λ _. ⌜ Widened m e (now (reach .entry)) (now (reach .exit)) × Blank (now (wide .exit)) ⌝ }
 {
     if e.kind == 3 {
         return;
     }
     let at = conflict_marks::moved_from(e, true);
-    let mut wide = [false; 768];
     let mut j = 0;
     while j <= m {
-        conflict_marks::lay_out(&mut wide, &reach[j]);
-        run_into(&mut reach[j], &wide, e, at);
+        conflict_marks::lay_out(wide, &reach[j]);
+        run_into(&mut reach[j], wide, e, at);
         j += 1;
     }
 }

@@ -184,9 +184,9 @@ array-copy-out-o c = search needs
 
 widen-requires : tie.Need-widen-requires Inv-loop2 μ-loop2 Inv-loop μ-loop Inv-search μ-search
 widen-requires c κs =
-    let a = c .before .before .before .before .before .before .args in
-    let l = c .before .before .before .before .loop in
-    (omega arith, l .inv .2, λ j h. own-long (a .start) (a .m) (a .t4) (search needs) (l .inv .4) j h)
+    let a = c .before .before .before .before .before .before .before .args in
+    let l = c .before .before .before .before .before .loop in
+    (omega arith, l .inv .2, (λ j h. own-long (a .start) (a .m) (a .t4) (search needs) (l .inv .4) j h), l .inv .5)
 
 add-i : tie.Need-add-i Inv-loop2 μ-loop2 Inv-loop μ-loop Inv-search μ-search
 add-i c = search needs
@@ -196,12 +196,12 @@ search-less c = search needs
 
 search-again : tie.Need-search-again Inv-loop2 μ-loop2 Inv-loop μ-loop Inv-search μ-search
 search-again c =
-    let a = c .before .before .before .before .before .before .before .args in
-    let l = c .before .before .before .before .before .loop in (
+    let a = c .before .before .before .before .before .before .before .before .args in
+    let l = c .before .before .before .before .before .before .loop in (
       omega arith,
-      c .widen .ensures .long,
-      other-step (a .start) (a .m) (a .t4) (search needs) (a .n) (a .t2) (search needs) (c .before .before .before .before .before .before .search .i) (l .j) (omega arith) (omega arith) (l .inv .3) (l .inv .4) (omega arith) (c .widen .ensures),
-      l .inv .5,
+      c .widen .ensures .0 .long,
+      other-step (a .start) (a .m) (a .t4) (search needs) (a .n) (a .t2) (search needs) (c .before .before .before .before .before .before .before .search .i) (l .j) (omega arith) (omega arith) (l .inv .3) (l .inv .4) (omega arith) (c .widen .ensures .0),
+      c .widen .ensures .1,
     )
 
 returns-2 : tie.Need-returns-2 Inv-loop2 μ-loop2 Inv-loop μ-loop Inv-search μ-search

@@ -18,6 +18,9 @@ loop-holds c = (omega arith, none-laid (c .pre .1))
 element-copy-out-wide : tie.Need-element-copy-out-wide Inv-loop μ-loop
 element-copy-out-wide c = search needs
 
+element-copy-out-wide-2 : tie.Need-element-copy-out-wide-2 Inv-loop μ-loop
+element-copy-out-wide-2 c = search needs
+
 add-wide : tie.Need-add-wide Inv-loop μ-loop
 add-wide c = search needs
 
@@ -32,7 +35,7 @@ loop-less c = search needs
 
 loop-again : tie.Need-loop-again Inv-loop μ-loop
 loop-again c =
-    let l = c .before .before .loop in (omega arith, one-laid (l .inv .1) (omega arith))
+    let l = c .before .before .before .loop in (omega arith, one-laid (l .inv .1) (omega arith))
 
 returns : tie.Need-returns Inv-loop μ-loop
 returns c =
@@ -47,6 +50,7 @@ lay-out-spec =
     μ-loop
     loop-holds
     element-copy-out-wide
+    element-copy-out-wide-2
     add-wide
     element-write-wide
     add-v

@@ -8,7 +8,7 @@ use lib.ListN.{length}
 use Rattle.operation.specs.declared.Operation.{Operation}
 use Rattle.conflict_marks.specs.Marks.{Blank, marksAt}
 use Rattle.conflict_marks.proofs.Moved.{Widening, none-widened, one-widened, read-moved}
-use Rattle.conflict_marks.proofs.Stored.{laid-blank, blank-first}
+use Rattle.conflict_marks.proofs.Stored.{laid-blank}
 use Rattle.conflict_rows.proofs.widen.Statement.{statement}
 use Rattle.conflict_rows.proofs.widen.Tie as tie
 
@@ -16,19 +16,19 @@ row : {j : ℕ} {e : Operation} {l r : List (List Bool)} → Widening j e l r �
 row {j} w h = ap length (w .left j (omega arith)) ∙ h
 
 abbrev Inv-loop : tie.InvT-loop
-Inv-loop reach₀ m e at wide₀ j₀ reach wide j = (j ≤ m + 1) × Blank wide × Widening j e reach₀ reach
+Inv-loop reach₀ wide₀ m e at j₀ reach wide j = (j ≤ m + 1) × Blank wide × Widening j e reach₀ reach
 
 abbrev μ-loop : tie.MeasureT-loop
-μ-loop reach₀ m e at wide₀ j₀ reach wide j = m + 1 - j
+μ-loop reach₀ wide₀ m e at j₀ reach wide j = m + 1 - j
 
 returns : tie.Need-returns Inv-loop μ-loop
-returns c = record { long = c .before .before .pre .1; each = λ j h. read-moved (c .if1 .taken) (c .before .before .pre .2 j h) }
+returns c = (record { long = c .before .before .pre .1; each = λ j h. read-moved (c .if1 .taken) (c .before .before .pre .2 j h) }, c .before .before .pre .3)
 
 moved-from-requires : tie.Need-moved-from-requires Inv-loop μ-loop
 moved-from-requires c κs = search needs
 
 loop-holds : tie.Need-loop-holds Inv-loop μ-loop
-loop-holds c = (omega arith, blank-first, none-widened (c .before .before .before .pre .1))
+loop-holds c = (omega arith, c .before .before .before .pre .3, none-widened (c .before .before .before .pre .1))
 
 mul-lay-out : tie.Need-mul-lay-out Inv-loop μ-loop
 mul-lay-out c = search needs
@@ -61,7 +61,8 @@ loop-again c =
     (omega arith, laid-blank y, one-widened (l .inv .2) (omega arith) (c .before .before .before .before .before .before .before .before .before .before .before .pre .2 (l .j) (omega arith)) (c .before .before .before .before .before .before .before .before .moved-from .ensures .1) y (c .run-into .ensures))
 
 returns-2 : tie.Need-returns-2 Inv-loop μ-loop
-returns-2 c = record { long = c .before .loop .inv .2 .long; each = λ j h. c .before .loop .inv .2 .done j (omega arith) }
+returns-2 c =
+    (record { long = c .before .loop .inv .2 .long; each = λ j h. c .before .loop .inv .2 .done j (omega arith) }, c .before .loop .inv .1)
 
 pub widen-spec : {M : Type 1} → statement M
 widen-spec =
