@@ -1,4 +1,4 @@
-"""Document 01's van and relay, in plain Python, written from its text alone.
+"""Document 01's van and relay, with the answers of document 02's Q-1, in plain Python, written from their text alone.
 
 A second implementation to hold the proved one against: slow, with nothing shared. It keeps document
 01's words (docs/GLOSSARY.md gives the terms of the field), so that it can be read beside the text.

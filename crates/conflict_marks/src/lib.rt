@@ -72,8 +72,8 @@ pub struct Span {
     pub hi: usize,
 }
 
-// The values whose response is that of u: all that succeed, where an add or take does at u; only u, where it fails
-// (the response has the value) and of a read; all of a set.
+// The values whose response is that of u. Of an add or take that succeeds at u: those where it does; of one that fails:
+// only u, which the response tells. Of a read: only u; of a set: all.
 pub fn same_span(e: Operation, u: u8) -> Span
     ensures { λ r. ⌜ SameSpan e u (r .lo) (r .hi) ⌝ }
 {
