@@ -1,8 +1,8 @@
-// Operations run on cells: what each does, and its response. Definitions: specs/Operation.antt of operation.
+// Operations run on cells and temperatures: what each does, and its response. Definitions: specs/Operation.antt of operation.
 ghost use mathlib.Core.Path.{_≡_};
 ghost use Prim.Native.Nat.{_+_, _≤_};
-ghost use lib.ListN.{take, getD};
-ghost use Rattle.operation.specs.Operation.{maxPending, value, failed, response, after, responseOn, effect, runAll};
+ghost use lib.ListN.{take, set};
+ghost use Rattle.operation.specs.Operation.{maxPending, signed, numberAt, value, temp, failed, valueResponse, response, after, responseOn, effect, runAll};
 use operation::Cells;
 use operation::Operation;
 use operation::Response;
@@ -21,23 +21,30 @@ pub fn value_after(e: Operation, v: u8) -> u8
         }
     } else if kind == 2 {
         if amount <= v { v - amount } else { v }
-    } else if kind == 4 {
+    } else if (kind == 4) | (kind == 5) {
         amount
     } else {
         v
     }
 }
 
-// The response of an add or take that fails, where its cell holds `v`.
-fn failed_at(v: u8) -> Response
+// The temperature of the operation's cell after it, where it was `t`.
+fn temp_after(e: Operation, t: u8) -> u8
+    ensures { λ r. ⌜ r ≡ temp e t ⌝ }
+{
+    if e.kind == 5 { e.last } else { t }
+}
+
+// What is answered by an add or take that fails, where its cell holds `v`.
+fn failed_at(v: u8) -> u16
     ensures { λ r. ⌜ r ≡ failed v ⌝ }
 {
     256 + v as u16
 }
 
-// The operation's response, where its cell holds `v`.
-pub fn response_to(e: Operation, v: u8) -> Response
-    ensures { λ r. ⌜ r ≡ response e v ⌝ }
+// What is answered by the value `v` of the operation's cell: the response of every kind but 6.
+pub fn value_response(e: Operation, v: u8) -> u16
+    ensures { λ r. ⌜ r ≡ valueResponse e v ⌝ }
 {
     let kind = e.kind;
     let amount = e.amount;
@@ -56,15 +63,44 @@ pub fn response_to(e: Operation, v: u8) -> Response
     }
 }
 
-// What the cell `i` holds, and 0 where there is no such cell.
-fn cell_of(cells: Cells, i: u8) -> u8
-    ensures { λ r. ⌜ r ≡ getD cells i 0 ⌝ }
+// The number that a byte stands for, in two's complement.
+fn signed_of(b: u8) -> Response
+    ensures { λ r. ⌜ r ≡ signed b ⌝ }
+{
+    let z = b as i16;
+    if b < 128 { z } else { z - 256 }
+}
+
+// The operation's response, where its cell holds `v` and has the temperature `t`.
+fn response_to(e: Operation, v: u8, t: u8) -> Response
+    ensures { λ r. ⌜ r ≡ response e v t ⌝ }
+{
+    if e.kind == 6 {
+        signed_of(t)
+    } else {
+        value_response(e, v) as i16
+    }
+}
+
+// The number at `i`, and 0 where there is none.
+fn number_at(s: [u8; operation::CELL_COUNT], i: u8) -> u8
+    ensures { λ r. ⌜ r ≡ numberAt s i ⌝ }
+{
+    let k = i as usize;
+    if k < operation::CELL_COUNT { s[k] } else { 0 }
+}
+
+// The numbers with `x` at `i`, and as they are where there is no such place.
+fn with_number(s: [u8; operation::CELL_COUNT], i: u8, x: u8) -> [u8; operation::CELL_COUNT]
+    ensures { λ r. ⌜ r ≡ set s i x ⌝ }
 {
     let k = i as usize;
     if k < operation::CELL_COUNT {
-        cells[k]
+        let mut t = s;
+        t[k] = x;
+        t
     } else {
-        0
+        s
     }
 }
 
@@ -72,13 +108,16 @@ fn cell_of(cells: Cells, i: u8) -> u8
 pub fn run_on(e: Operation, cells: Cells) -> Cells
     ensures { λ r. ⌜ r ≡ after e cells ⌝ }
 {
-    let k = e.cell as usize;
-    if k < operation::CELL_COUNT {
-        let mut t = cells;
-        t[k] = value_after(e, cells[k]);
-        t
-    } else {
-        cells
+    let values = cells.values;
+    let temps = cells.temps;
+    let k = e.cell;
+    let v = value_after(e, number_at(values, k));
+    let t = temp_after(e, number_at(temps, k));
+    let new_values = with_number(values, k, v);
+    let new_temps = with_number(temps, k, t);
+    Cells {
+        values: new_values,
+        temps: new_temps,
     }
 }
 
@@ -86,7 +125,9 @@ pub fn run_on(e: Operation, cells: Cells) -> Cells
 pub fn response_on(e: Operation, cells: Cells) -> Response
     ensures { λ r. ⌜ r ≡ responseOn e cells ⌝ }
 {
-    response_to(e, cell_of(cells, e.cell))
+    let values = cells.values;
+    let temps = cells.temps;
+    response_to(e, number_at(values, e.cell), number_at(temps, e.cell))
 }
 
 // The cells after an operation with its status: an aborted one changes nothing.

@@ -1,57 +1,40 @@
-use Rattle.operation.specs.Operation.{response}
-use borrow.Author.Tests.{eq-eqb, ne-eqb, le-leb, lt-leb}
+use Prim.Native.Nat.{_≤_}
+use mathlib.Core.Path.{_≡_, _∙_, ap}
+use native.Mathlib.Omega.{arith}
+use borrow.Author.Tests.{eq-eqb, ne-eqb}
+use lib.IntN.{pos}
+use mir.Facts.{toZ-ofZ}
 use borrow.Author.Needs.{needs}
+use Rattle.operation.specs.Operation.{valueResponse, response}
+use Rattle.operation.proofs.Laws.{value-response-range}
+use Rattle.operation_run.proofs.Bytes.{plain}
 use Rattle.operation_run.proofs.response_to.Statement.{statement}
 use Rattle.operation_run.proofs.response_to.Tie as tie
 
-cast-if2 : tie.Need-cast-if2
-cast-if2 c = search needs
+signed-of-requires : tie.Need-signed-of-requires
+signed-of-requires c κs = search needs
 
-add-if2 : tie.Need-add-if2
-add-if2 c = search needs
+value-response-requires : tie.Need-value-response-requires
+value-response-requires c κs = search needs
 
-failed-at-requires : tie.Need-failed-at-requires
-failed-at-requires c κs = search needs
-
-failed-at-requires-2 : tie.Need-failed-at-requires-2
-failed-at-requires-2 c κs = search needs
+cast-result : tie.Need-cast-result
+cast-result c =
+    let a = c .before .before .before .args in
+    let h : a .v ≤ 255 = search needs in
+    record { sfits = omega (arith, c .value-response .ensures, value-response-range (a .e) (a .v) h) }
 
 returns : tie.Need-returns
 unfolding response
-returns c = simp (eq-eqb _ _ (c .before .if1 .taken), le-leb _ _ (c .if2 .taken))
+returns c =
+    toZ-ofZ {z = c .signed-of .result} (record { sfits = c .signed-of .ok }) ∙ rw (eq-eqb _ _ (c .before .if1 .taken)) (c .signed-of .ensures)
 
 returns-2 : tie.Need-returns-2
 unfolding response
-returns-2 c = simp (eq-eqb _ _ (c .before .before .if1 .taken), lt-leb _ _ (c .before .if2 .left)) (c .failed-at .ensures)
-
-returns-3 : tie.Need-returns-3
-unfolding response
-returns-3 c = simp (ne-eqb _ _ (c .before .before .if1 .left), eq-eqb _ _ (c .before .if3 .taken), le-leb _ _ (c .if4 .taken))
-
-returns-4 : tie.Need-returns-4
-unfolding response
-returns-4 c =
-    simp (ne-eqb _ _ (c .before .before .before .if1 .left), eq-eqb _ _ (c .before .before .if3 .taken), lt-leb _ _ (c .before .if4 .left)) (c .failed-at2 .ensures)
-
-returns-5 : tie.Need-returns-5
-unfolding response
-returns-5 c = simp (ne-eqb _ _ (c .before .before .if1 .left), ne-eqb _ _ (c .before .if3 .left), eq-eqb _ _ (c .if5 .taken))
-
-returns-6 : tie.Need-returns-6
-unfolding response
-returns-6 c = simp (ne-eqb _ _ (c .before .before .if1 .left), ne-eqb _ _ (c .before .if3 .left), ne-eqb _ _ (c .if5 .left))
+returns-2 c =
+    let a = c .before .before .before .args in
+    let h : a .v ≤ 255 = search needs in
+    plain (c .value-response .result) (omega (arith, c .value-response .ensures, value-response-range (a .e) (a .v) h)) ∙ rw (ne-eqb _ _ (c .before .if1 .left)) (ap pos (c .value-response .ensures))
 
 pub response-to-spec : {M : Type 1} → statement M
 response-to-spec =
-    tie.close
-    (tie.spec
-    cast-if2
-    add-if2
-    failed-at-requires
-    failed-at-requires-2
-    returns
-    returns-2
-    returns-3
-    returns-4
-    returns-5
-    returns-6)
+    tie.close (tie.spec signed-of-requires value-response-requires cast-result returns returns-2)

@@ -2,8 +2,8 @@ use Prim.Native.Nat.{_≤_}
 use lib.ListN.{List·getD-eq-default}
 use mathlib.Core.Path.{sym}
 use borrow.Author.Needs.{needs}
-use Rattle.operation_run.proofs.cell_of.Statement.{statement}
-use Rattle.operation_run.proofs.cell_of.Tie as tie
+use Rattle.operation_run.proofs.number_at.Statement.{statement}
+use Rattle.operation_run.proofs.number_at.Tie as tie
 
 array-read-result : tie.Need-array-read-result
 array-read-result c = search needs
@@ -14,5 +14,5 @@ returns c = search needs
 returns-2 : tie.Need-returns-2
 returns-2 c = let h : 16 ≤ c .before .args .i = search needs in sym (List·getD-eq-default (c .before .args .t1) 0 {n = c .before .args .i} (search needs))
 
-pub cell-of-spec : {M : Type 1} → statement M
-cell-of-spec = tie.close (tie.spec array-read-result returns returns-2)
+pub number-at-spec : {M : Type 1} → statement M
+number-at-spec = tie.close (tie.spec array-read-result returns returns-2)
