@@ -128,7 +128,7 @@ module _ (keys : List ℕ) (log : List Logged) (F : (e : Logged) → List·Mem�
 
       go : Kind (s .event) → Commits i k o
       go (quiet q w) = absurd (let z : _≡_ {A = ℕ} 0 1 = cc (q, s .did) in omega arith)
-      go (makes kind cell amount room z q t) = absurd (let z : _≡_ {A = ℕ} 0 1 = cc (t, s .did) in omega arith)
+      go (makes kind cell amount last room z q t) = absurd (let z : _≡_ {A = ℕ} 0 1 = cc (t, s .did) in omega arith)
       go (confirms-it z q t) = absurd (let z : _≡_ {A = ℕ} 0 1 = cc (t, s .did) in omega arith)
       go (commits room z q t) =
           let u : _≡_ {A = List Ev} (commit (caller (s .event .call)) (comOf (s .event)) ∷ []) (commit i k ∷ []) = sym t ∙ s .did in
@@ -167,7 +167,7 @@ module _ (keys : List ℕ) (log : List Logged) (F : (e : Logged) → List·Mem�
 
       go : Kind (s .event) → Confirms v k o
       go (quiet q w) = absurd (let z : _≡_ {A = ℕ} 0 1 = cc (q, s .did) in omega arith)
-      go (makes kind cell amount room z q t) = absurd (let z : _≡_ {A = ℕ} 0 1 = cc (t, s .did) in omega arith)
+      go (makes kind cell amount last room z q t) = absurd (let z : _≡_ {A = ℕ} 0 1 = cc (t, s .did) in omega arith)
       go (commits room z q t) = absurd (let z : _≡_ {A = ℕ} 0 1 = cc (t, s .did) in omega arith)
       go (confirms-it z q t) =
           let u : _≡_ {A = List Ev} (confirms (caller (s .event .call)) (s .event .before) (commitOf (took (s .event))) ∷ []) (confirm i v k cells ∷ []) = sym t ∙ s .did in
