@@ -47,10 +47,11 @@ module _ (n : ℕ) (keys : List ℕ) (e : openNo n keys ≡ 0) where
         statuses = none-ok;
         unused = none-status;
         rest = none-held;
+        temps = refl;
       })
 
   pub open-sized : Sized (freshReplica n keys)
-  open-sized = record { keys = open-yes .long; chain = no-values-length; statuses = refl; cells = refl }
+  open-sized = record { keys = open-yes .long; chain = no-values-length; statuses = refl; cells = (refl, refl) }
 
   pub open-sound : Sound (freshReplica n keys)
   open-sound = record { range = open-in-range; sized = open-sized }
@@ -82,6 +83,7 @@ module _ (r : Replica) (kind cell amount last room : ℕ) (e : invokeNo r kind c
         statuses = g .statuses;
         unused = g .unused;
         rest = g .rest;
+        temps = g .temps;
       })
 
   pub invoke-sized : Sized r → Sized (invokedReplica r (newOp r kind cell amount last))
