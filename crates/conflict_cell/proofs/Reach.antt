@@ -10,13 +10,13 @@ use native.Mathlib.Omega.{arith}
 use lib.ListN.{length, getD, set, take, drop, drop-of-length-le}
 use lib.Seq.{getD-set-same, getD-set-other, drop-cons}
 use Rattle.operation.specs.declared.Operation.{Operation}
-use Rattle.operation.specs.Operation.{Response, noOp, value, response}
+use Rattle.operation.specs.Operation.{noOp, value, valueResponse}
 use Rattle.conflict_marks.specs.Marks.{Has, Moved, marksAt}
 use Rattle.conflict_cell.specs.Differs.{Differs, here, step, skip, runs}
 use Rattle.conflict_cell.proofs.First.{FirstMarks}
 
 -- Sets of states, P, that hold with each state and the own operations that are left the state after the next own operation, and in which no own response differs.
-module _ {S : Type 0} (val : Operation → S → S) (res : Operation → S → Response) (P : S → S → List Operation → Type 0)
+module _ {S R : Type 0} (val : Operation → S → S) (res : Operation → S → R) (P : S → S → List Operation → Type 0)
     (closed : (v u : S) (w : Operation) (ws : List Operation) → P v u (w ∷ ws) → (res w v ≡ res w u) × P (val w v) (val w u) ws) where
   -- With no others' entries left there is no conflict.
   pub final : {v u : S} {ws : List Operation} → Differs val res v u [] ws → P v u ws → ⊥
@@ -57,9 +57,9 @@ module _ (start : ℕ) (ws : List Operation) where
 
   -- A conflict from the value v with j own operations run.
   abbrev pub From : ℕ → ℕ → List Operation → Type 0
-  From j v os = Differs (value) (response) v (alone j) os (drop j ws)
+  From j v os = Differs (value) (valueResponse) v (alone j) os (drop j ws)
 
-  from-here : {os : List Operation} (j v : ℕ) → j < length ws → (response (opNo ws j) v ≡ response (opNo ws j) (alone j) → ⊥) → From j v os
+  from-here : {os : List Operation} (j v : ℕ) → j < length ws → (valueResponse (opNo ws j) v ≡ valueResponse (opNo ws j) (alone j) → ⊥) → From j v os
   from-here j v h n = rw (drop-cons ws j noOp h) (here n)
 
   from-step : {os : List Operation} (j v : ℕ) → j < length ws → From (suc j) (value (opNo ws j) v) os → From j v os
@@ -73,16 +73,16 @@ module _ (start : ℕ) (ws : List Operation) where
 
   -- Below n own operations, no own response differs, and the values after the next own operation are marked.
   abbrev pub Closed : List (List Bool) → ℕ → Type 0
-  Closed l n = (j v : ℕ) → j < n → Has (marksAt l j) v → (response (opNo ws j) v ≡ response (opNo ws j) (alone j)) × Has (marksAt l (suc j)) (value (opNo ws j) v)
+  Closed l n = (j v : ℕ) → j < n → Has (marksAt l j) v → (valueResponse (opNo ws j) v ≡ valueResponse (opNo ws j) (alone j)) × Has (marksAt l (suc j)) (value (opNo ws j) v)
 
   abbrev In : List (List Bool) → ℕ → ℕ → List Operation → Type 0
   In l v u rest = (j : ℕ) × (j ≤ length ws) × Has (marksAt l j) v × (u ≡ alone j) × (rest ≡ drop j ws)
 
   in-closed : (l : List (List Bool)) → Closed l (length ws) → (v u : ℕ) (w : Operation) (rest : List Operation) → In l v u (w ∷ rest)
-      → (response w v ≡ response w u) × In l (value w v) (value w u) rest
+      → (valueResponse w v ≡ valueResponse w u) × In l (value w v) (value w u) rest
   in-closed l cl v u w rest (j, hj, has, eu, ew) = go (decLt j (length ws))
     where
-      go : Dec (j < length ws) → (response w v ≡ response w u) × In l (value w v) (value w u) rest
+      go : Dec (j < length ws) → (valueResponse w v ≡ valueResponse w u) × In l (value w v) (value w u) rest
       go (yes h) =
           let e : w ∷ rest ≡ opNo ws j ∷ drop (suc j) ws = ew ∙ drop-cons ws j noOp h in
           let ee : w ≡ opNo ws j = cc in
@@ -95,7 +95,7 @@ module _ (start : ℕ) (ws : List Operation) where
 
   -- With none of the others' operations left there is no conflict.
   pub none-left : {Goal : Type 0} (l : List (List Bool)) → Closed l (length ws) → Held Goal [] l → Goal → ⊥
-  none-left l cl h g = let (j, v, hj, has, d) = h .complete g in final (value) (response) (In l) (in-closed l cl) d (j, hj, has, refl, refl)
+  none-left l cl h g = let (j, v, hj, has, d) = h .complete g in final (value) (valueResponse) (In l) (in-closed l cl) d (j, hj, has, refl, refl)
 
   -- Another's operation, run or left out.
   pub widens : {Goal : Type 0} {o : Operation} {os : List Operation} (l l′ : List (List Bool)) → Closed l (length ws) → Held Goal (o ∷ os) l
@@ -113,15 +113,15 @@ module _ (start : ℕ) (ws : List Operation) where
       complete : Goal → (j : ℕ) × (v : ℕ) × (j ≤ length ws) × Has (marksAt l′ j) v × From j v os
       complete g =
           let (j, v, hj, has, d) = h .complete g in
-          let (v′, u′, rest, p, d′) = push (value) (response) (In l) (in-closed l cl) (In l′) wide d (j, hj, has, refl, refl) in
-          (p .0, v′, p .1, p .2, subst₂ (λ x y. Differs (value) (response) v′ x os y) (p .3) (p .4) d′)
+          let (v′, u′, rest, p, d′) = push (value) (valueResponse) (In l) (in-closed l cl) (In l′) wide d (j, hj, has, refl, refl) in
+          (p .0, v′, p .1, p .2, subst₂ (λ x y. Differs (value) (valueResponse) v′ x os y) (p .3) (p .4) d′)
 
   -- A differing response.
   pub found : {Goal : Type 0} {os : List Operation} {l : List (List Bool)} (j v : ℕ) → Held Goal os l → j < length ws → Has (marksAt l j) v
-      → (response (opNo ws j) v ≡ response (opNo ws j) (alone j) → ⊥) → Goal
+      → (valueResponse (opNo ws j) v ≡ valueResponse (opNo ws j) (alone j) → ⊥) → Goal
   found j v h lt has n = h .sound j v (omega arith) has (from-here j v lt n)
 
-  pub begins : {os : List Operation} {l : List (List Bool)} → FirstMarks start l → length ws < 33 → Held (Differs (value) (response) start start os ws) os l
+  pub begins : {os : List Operation} {l : List (List Bool)} → FirstMarks start l → length ws < 33 → Held (Differs (value) (valueResponse) start start os ws) os l
   unfolding ran
   begins {os} {l} f short = record {
     long = λ j hj. f .long j (omega arith);
@@ -137,14 +137,14 @@ module _ (start : ℕ) (ws : List Operation) where
     new : marksAt (set l (suc j) into) (suc j) ≡ into
     new = getD-set-same l (suc j) into [] fits
 
-    pub closes : Closed l j → ((v : ℕ) → Has (marksAt l j) v → (response (opNo ws j) v ≡ response (opNo ws j) (alone j)) × Has into (value (opNo ws j) v))
+    pub closes : Closed l j → ((v : ℕ) → Has (marksAt l j) v → (valueResponse (opNo ws j) v ≡ valueResponse (opNo ws j) (alone j)) × Has into (value (opNo ws j) v))
         → Closed (set l (suc j) into) (suc j)
     closes cl own i v h has = go (ℕ-discrete i j)
       where
         has′ : Has (marksAt l i) v
         has′ = rw (stored i (λ e. omega arith)) at has
 
-        go : Dec (i ≡ j) → (response (opNo ws i) v ≡ response (opNo ws i) (alone i)) × Has (marksAt (set l (suc j) into) (suc i)) (value (opNo ws i) v)
+        go : Dec (i ≡ j) → (valueResponse (opNo ws i) v ≡ valueResponse (opNo ws i) (alone i)) × Has (marksAt (set l (suc j) into) (suc i)) (value (opNo ws i) v)
         go (yes e) = rw (e, new) (own v (rw e at has′))
         go (no n) = rw (stored (suc i) (λ e. omega arith)) (cl i v (omega arith) has′)
 

@@ -8,7 +8,7 @@ use native.Mathlib.Numerals.{add-one}
 use lib.ListN.{length, set, take, drop, drop-of-length-le}
 use lib.Seq.{drop-cons, length-take-le, getD-take}
 use Rattle.operation.specs.declared.Operation.{Operation}
-use Rattle.operation.specs.Operation.{noOp, value, response}
+use Rattle.operation.specs.Operation.{noOp, value, valueResponse}
 use Rattle.conflict_marks.specs.Marks.{Has, Moved, marksAt, Widened}
 use Rattle.conflict_cell.proofs.Reach.{opNo, ran-suc, alone, Held, Closed, none-left, widens, found, closes, adds}
 
@@ -26,7 +26,7 @@ module _ (start m : ℕ) (own : List Operation) (hm : m ≤ length own) where
   -- The own operation j run on the whole set of values.
   pub own-step : {Goal : Type 0} {os : List Operation} {l : List (List Bool)} {into : List Bool} (j u : ℕ) → j < m → j + 1 < length l → u ≡ alone start (take m own) j
       → Moved (opNo own j) (marksAt l j) (marksAt l (j + 1)) into
-      → ((x : ℕ) → Has (marksAt l j) x → response (opNo own j) x ≡ response (opNo own j) u)
+      → ((x : ℕ) → Has (marksAt l j) x → valueResponse (opNo own j) x ≡ valueResponse (opNo own j) u)
       → Closed start (take m own) l j → Held start (take m own) Goal os l
       → Closed start (take m own) (set l (j + 1) into) (j + 1) × Held start (take m own) Goal os (set l (j + 1) into)
   own-step {Goal} {os} {l} {into} j u h fits eu p same cl held =
@@ -45,7 +45,7 @@ module _ (start m : ℕ) (own : List Operation) (hm : m ≤ length own) where
   own-long held j h = held .long j (omega (arith, count))
 
   pub differs-at : {Goal : Type 0} {os : List Operation} {l : List (List Bool)} (j u v : ℕ) → Held start (take m own) Goal os l → j < m → u ≡ alone start (take m own) j
-      → Has (marksAt l j) v → (response (opNo own j) v ≡ response (opNo own j) u → ⊥) → Goal
+      → Has (marksAt l j) v → (valueResponse (opNo own j) v ≡ valueResponse (opNo own j) u → ⊥) → Goal
   differs-at j u v held h eu has n = found start (take m own) j v held (omega (arith, count)) has (λ e. n (rw (operation j h, ← eu) at e))
 
   whole : (l : List (List Bool)) (j : ℕ) → j ≤ m → m ≤ j → Closed start (take m own) l j → Closed start (take m own) l (length (take m own))

@@ -4,7 +4,7 @@ ghost use Prim.Native.Nat.{_≤_};
 ghost use mathlib.Core.Bool.{true};
 ghost use mathlib.Core.Logic.{_↔_};
 ghost use lib.ListN.{take};
-ghost use Rattle.operation.specs.Operation.{maxPending, value, response};
+ghost use Rattle.operation.specs.Operation.{maxPending, value, valueResponse};
 ghost use Rattle.conflict_cell.specs.Differs.{Differs};
 use operation::Operation;
 
@@ -18,7 +18,7 @@ pub fn conflict_at(
     m: usize,
 ) -> bool
     requires { ⌜ (n ≤ maxPending) × (m ≤ maxPending) ⌝ }
-    ensures { λ r. ⌜ (r ≡ true) ↔ Differs value response start start (take n others) (take m own) ⌝ }
+    ensures { λ r. ⌜ (r ≡ true) ↔ Differs value valueResponse start start (take n others) (take m own) ⌝ }
 {
     // "One cell's values reached so far are 256 yes-or-no marks."
     let none = [false; 256];
@@ -34,14 +34,14 @@ pub fn conflict_at(
         let mut j = 0;
         while j < m {
             let w = own[j];
-            let expected = operation_run::response_to(w, u);
+            let expected = operation_run::value_response(w, u);
             conflict_marks::lay_out(&mut wide, &reach[j]);
             // Over the cell's values, entered only where a quick look says that one has another response.
             if conflict_rows::any_other(&wide, w, u) {
                 let mut v: usize = 0;
                 while v < 256 {
                     if reach[j][v] {
-                        if operation_run::response_to(w, v as u8) != expected {
+                        if operation_run::value_response(w, v as u8) != expected {
                             break 'search;
                         }
                     }

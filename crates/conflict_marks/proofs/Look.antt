@@ -7,13 +7,9 @@ use mathlib.Core.Logic.{_↔_, _⊎_, inl, inr, ⊎-elim}
 use native.Mathlib.Decide.{ℕ-discrete, decLt}
 use native.Mathlib.Omega.{arith}
 use Rattle.operation.specs.declared.Operation.{Operation}
-use Rattle.operation.specs.Operation.{response}
+use Rattle.operation.specs.Operation.{valueResponse}
 use Rattle.conflict_marks.specs.Marks.{Has, Blank, Laid, SameSpan, Other}
-use Rattle.conflict_marks.proofs.Stored.{clash}
-
-or-either : (a b : Bool) → (a || b) ≡ true → (a ≡ true) ⊎ (b ≡ true)
-or-either true b e = inl refl
-or-either false b e = inr e
+use Rattle.conflict_marks.proofs.Stored.{clash, or-either}
 
 or-left : (a b : Bool) → a ≡ true → (a || b) ≡ true
 or-left true b e = refl
@@ -44,7 +40,7 @@ outside {e} {u} {lo} {hi} {p} x y blank sp a b = (λ q. ⊎-elim low high (or-ei
         let z : hi + 256 + k ≡ hi + k + 256 = omega arith in
         (hi + k, rw z at o, λ f. omega (arith, sp .only (hi + k) (omega (arith, m .1)) f .1))
 
-    from : (v : ℕ) → Has p (v + 256) → (response e v ≡ response e u → ⊥) → Dec (v < lo) → Dec (v < hi) → (x || y) ≡ true
+    from : (v : ℕ) → Has p (v + 256) → (valueResponse e v ≡ valueResponse e u → ⊥) → Dec (v < lo) → Dec (v < hi) → (x || y) ≡ true
     from v o n (yes l) d =
         let z : v + 256 ≡ lo + (v + 256 - lo) = omega (arith, sp .low) in or-left x y (a .1 (v + 256 - lo, omega arith, rw z at o))
     from v o n (no f) (yes l) = absurd (n (sp .same v (omega arith) l))
@@ -52,9 +48,9 @@ outside {e} {u} {lo} {hi} {p} x y blank sp a b = (λ q. ⊎-elim low high (or-ei
         let z : v + 256 ≡ hi + 256 + (v - hi) = omega arith in or-right x y (b .1 (v - hi, omega (arith, blank .middle (v + 256) o .1), rw z at o))
 
 -- Where the look finds none, each marked value answers as u does.
-pub none-other : (e : Operation) (u : ℕ) {s p : List Bool} {b : Bool} → Laid s p → (b ≡ true) ↔ Other e u p → b ≡ false → (v : ℕ) → Has s v → response e v ≡ response e u
-none-other e u {s} {p} {b} y look q v o = go (ℕ-discrete (response e v) (response e u))
+pub none-other : (e : Operation) (u : ℕ) {s p : List Bool} {b : Bool} → Laid s p → (b ≡ true) ↔ Other e u p → b ≡ false → (v : ℕ) → Has s v → valueResponse e v ≡ valueResponse e u
+none-other e u {s} {p} {b} y look q v o = go (ℕ-discrete (valueResponse e v) (valueResponse e u))
   where
-    go : Dec (response e v ≡ response e u) → response e v ≡ response e u
+    go : Dec (valueResponse e v ≡ valueResponse e u) → valueResponse e v ≡ valueResponse e u
     go (yes r) = r
     go (no n) = absurd (clash q (look .1 (v, y .has v o, n)))

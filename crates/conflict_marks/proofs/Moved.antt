@@ -10,10 +10,10 @@ use lib.ListN.{length, set, length-set}
 use lib.Dec.{eqb}
 use lib.Seq.{getD-set-same, getD-set-other}
 use Rattle.operation.specs.declared.Operation.{Operation}
-use Rattle.operation.specs.Operation.{value, response}
-use Rattle.conflict_marks.specs.Marks.{Has, Laid, Joined, Ran, movedFrom, Moved, marksAt}
-use Rattle.conflict_marks.proofs.Stored.{below}
-use Rattle.conflict_marks.proofs.ByKind.{value-add, value-full, value-take, value-short, value-set, value-read, response-add, response-full, response-take, response-short, fits-too, full-too, enough-too, short-too, from-add, from-take, from-failed, from-other}
+use Rattle.operation.specs.Operation.{value, valueResponse}
+use Rattle.conflict_marks.specs.Marks.{Has, Laid, Joined, isSet, isRead, Ran, movedFrom, Moved, marksAt}
+use Rattle.conflict_marks.proofs.Stored.{clash, below}
+use Rattle.conflict_marks.proofs.ByKind.{value-add, value-full, value-take, value-short, value-set, value-read, value-other, response-add, response-full, response-take, response-short, fits-too, full-too, enough-too, short-too, from-add, from-take, from-failed, from-other}
 
 -- What an operation makes of marks that are laid out.
 pub joined-moved : {e : Operation} {at : ℕ} {s p t r : List Bool} → length s ≡ 256 → Laid s p → Joined 256 at p t r
@@ -32,7 +32,7 @@ joined-moved {e} {at} {s} {p} {t} {r} ls y j f g = record { long = j .long; kept
     only x o =
         ⊎-elim (λ k. inl k) (λ (l, k). let (v, lv, i, q) = y .only (at + x) k in inr (v, i, g v x lv l i q)) (j .only x o)
 
-pub set-moved : {e : Operation} {at : ℕ} {s p t r : List Bool} → length s ≡ 256 → Laid s p → Ran e at p t r → e .kind ≡ 4 → Moved e s t r
+pub set-moved : {e : Operation} {at : ℕ} {s p t r : List Bool} → length s ≡ 256 → Laid s p → Ran e at p t r → isSet e ≡ true → Moved e s t r
 set-moved {e} {at} {s} {p} {t} {r} ls y h k = record { long = h .sets k .0; kept = h .sets k .1; ran = ran; only = only }
   where
     ran : (v : ℕ) → Has s v → Has r (value e v)
@@ -44,39 +44,39 @@ set-moved {e} {at} {s} {p} {t} {r} ls y h k = record { long = h .sets k .0; kept
 
 -- Another's operation, run or left out.
 pub other-moved : {e : Operation} {at : ℕ} {s p r : List Bool} → length s ≡ 256 → Laid s p → at ≡ movedFrom e true → Ran e at p s r → Moved e s s r
-other-moved {e} {at} {s} {p} {r} ls y q h = go (ℕ-discrete (e .kind) 4) (ℕ-discrete (e .kind) 1) (ℕ-discrete (e .kind) 2)
+other-moved {e} {at} {s} {p} {r} ls y q h = go (isSet e) refl (ℕ-discrete (e .kind) 1) (ℕ-discrete (e .kind) 2)
   where
-    go : Dec (e .kind ≡ 4) → Dec (e .kind ≡ 1) → Dec (e .kind ≡ 2) → Moved e s s r
-    go (yes k) b c = set-moved ls y h k
-    go (no n) (yes k) c =
+    go : (b : Bool) → isSet e ≡ b → Dec (e .kind ≡ 1) → Dec (e .kind ≡ 2) → Moved e s s r
+    go true k b c = set-moved ls y h k
+    go false n (yes k) c =
         joined-moved ls y (h .joins n) (λ v l o. part v o (decLt 255 (v + e .amount))) (λ v x lv lx o z. sym (value-add e v k (omega (arith, q, from-add e k, z)) ∙ omega (arith, q, from-add e k, z)))
       where
         part : (v : ℕ) → Has s v → Dec (255 < v + e .amount) → ((value e v < 256) × (value e v + at ≡ v + 256)) ⊎ Has s (value e v)
         part v o (yes l) = inr (rw (value-full e v k l) o)
         part v o (no f) = let w = value-add e v k (omega arith) in inl (omega (arith, w), omega (arith, w, q, from-add e k))
-    go (no n) (no n₁) (yes k) =
+    go false n (no n₁) (yes k) =
         joined-moved ls y (h .joins n) (λ v l o. part v l o (decLt v (e .amount))) (λ v x lv lx o z. sym (value-take e v k (omega (arith, q, from-take e k, z)) ∙ omega (arith, q, from-take e k, z)))
       where
         part : (v : ℕ) → v < 256 → Has s v → Dec (v < e .amount) → ((value e v < 256) × (value e v + at ≡ v + 256)) ⊎ Has s (value e v)
         part v lv o (yes l) = inr (rw (value-short e v k l) o)
         part v lv o (no f) = let w = value-take e v k (omega arith) in inl (omega (arith, w), omega (arith, w, q, from-take e k))
-    go (no n) (no n₁) (no n₂) =
-        joined-moved ls y (h .joins n) (λ v l o. inr (rw (value-read e v n₁ n₂ n) o)) (λ v x lv lx o z. omega (arith, value-read e v n₁ n₂ n, q, from-other e true n₁ n₂, z))
+    go false n (no n₁) (no n₂) =
+        joined-moved ls y (h .joins n) (λ v l o. inr (rw (value-other e v n₁ n₂ n) o)) (λ v x lv lx o z. omega (arith, value-other e v n₁ n₂ n, q, from-other e true n₁ n₂, z))
 
-pub read-moved : {e : Operation} {s : List Bool} → e .kind ≡ 3 → length s ≡ 256 → Moved e s s s
-read-moved {e} k ls = record { long = ls; kept = λ v o. o; ran = λ v o. rw (value-read e v (λ q. omega arith) (λ q. omega arith) (λ q. omega arith)) o; only = λ x o. inl o }
+pub read-moved : {e : Operation} {s : List Bool} → isRead e ≡ true → length s ≡ 256 → Moved e s s s
+read-moved {e} k ls = record { long = ls; kept = λ v o. o; ran = λ v o. rw (value-read e v k) o; only = λ x o. inl o }
 
 -- An own operation, where each marked value gives the response of u.
-pub own-moved : {e : Operation} (u : ℕ) {at : ℕ} {s p t r : List Bool} → length s ≡ 256 → Laid s p → at ≡ movedFrom e (eqb (response e u) 1)
-    → ((v : ℕ) → Has s v → response e v ≡ response e u) → Ran e at p t r → Moved e s t r
-own-moved {e} u {at} {s} {p} {t} {r} ls y q same h = go (ℕ-discrete (e .kind) 4) (ℕ-discrete (e .kind) 1) (ℕ-discrete (e .kind) 2)
+pub own-moved : {e : Operation} (u : ℕ) {at : ℕ} {s p t r : List Bool} → length s ≡ 256 → Laid s p → at ≡ movedFrom e (eqb (valueResponse e u) 1)
+    → ((v : ℕ) → Has s v → valueResponse e v ≡ valueResponse e u) → Ran e at p t r → Moved e s t r
+own-moved {e} u {at} {s} {p} {t} {r} ls y q same h = go (isSet e) refl (ℕ-discrete (e .kind) 1) (ℕ-discrete (e .kind) 2)
   where
-    alike : (e .kind ≡ 4 → ⊥) → ((v : ℕ) → v < 256 → Has s v → (value e v < 256) × (value e v + at ≡ v + 256)) → Moved e s t r
+    alike : isSet e ≡ false → ((v : ℕ) → v < 256 → Has s v → (value e v < 256) × (value e v + at ≡ v + 256)) → Moved e s t r
     alike n f = joined-moved ls y (h .joins n) (λ v l o. inl (f v l o)) (λ v x lv lx o z. omega (arith, f v lv o .1, z))
 
-    go : Dec (e .kind ≡ 4) → Dec (e .kind ≡ 1) → Dec (e .kind ≡ 2) → Moved e s t r
-    go (yes k) b c = set-moved ls y h k
-    go (no n) (yes k) c = part (decLt 255 (u + e .amount))
+    go : (b : Bool) → isSet e ≡ b → Dec (e .kind ≡ 1) → Dec (e .kind ≡ 2) → Moved e s t r
+    go true k b c = set-moved ls y h k
+    go false n (yes k) c = part (decLt 255 (u + e .amount))
       where
         part : Dec (255 < u + e .amount) → Moved e s t r
         part (yes l) =
@@ -86,7 +86,7 @@ own-moved {e} u {at} {s} {p} {t} {r} ls y q same h = go (ℕ-discrete (e .kind) 
             let i : u + e .amount ≤ 255 = omega arith in
             let z : at ≡ 256 - e .amount = q ∙ rw (response-add e u k i) (from-add e k) in
             alike n (λ v lv o. let d = fits-too e u v k (same v o) i in let w = value-add e v k d in (omega (arith, w, d), omega (arith, w, z)))
-    go (no n) (no n₁) (yes k) = part (decLt u (e .amount))
+    go false n (no n₁) (yes k) = part (decLt u (e .amount))
       where
         part : Dec (u < e .amount) → Moved e s t r
         part (yes l) =
@@ -96,12 +96,12 @@ own-moved {e} u {at} {s} {p} {t} {r} ls y q same h = go (ℕ-discrete (e .kind) 
             let i : e .amount ≤ u = omega arith in
             let z : at ≡ 256 + e .amount = q ∙ rw (response-take e u k i) (from-take e k) in
             alike n (λ v lv o. let d = enough-too e u v k (same v o) i in let w = value-take e v k d in (omega (arith, w), omega (arith, w, d, z)))
-    go (no n) (no n₁) (no n₂) =
-        alike n (λ v lv o. let w = value-read e v n₁ n₂ n in (omega (arith, w), omega (arith, w, q, from-other e (eqb (response e u) 1) n₁ n₂)))
+    go false n (no n₁) (no n₂) =
+        alike n (λ v lv o. let w = value-other e v n₁ n₂ n in (omega (arith, w), omega (arith, w, q, from-other e (eqb (valueResponse e u) 1) n₁ n₂)))
 
 -- What one operation leaves.
-pub ran-set : {e : Operation} {at : ℕ} {p t : List Bool} → e .kind ≡ 4 → length t ≡ 256 → e .amount < 256 → (k : ℕ) × (k < 256) × Has p (256 + k) → Ran e at p t (set t (e .amount) true)
-ran-set {e} {at} {p} {t} k lt small w = record { sets = λ _. (length-set t (e .amount) true ∙ lt, kept, λ v l o. getD-set-same t (e .amount) true false fits, only); joins = λ n. absurd (n k) }
+pub ran-set : {e : Operation} {at : ℕ} {p t : List Bool} → isSet e ≡ true → length t ≡ 256 → e .amount < 256 → (k : ℕ) × (k < 256) × Has p (256 + k) → Ran e at p t (set t (e .amount) true)
+ran-set {e} {at} {p} {t} k lt small w = record { sets = λ _. (length-set t (e .amount) true ∙ lt, kept, λ v l o. getD-set-same t (e .amount) true false fits, only); joins = λ n. absurd (clash n k) }
   where
     fits : e .amount < length t
     fits = omega arith
@@ -120,11 +120,11 @@ ran-set {e} {at} {p} {t} k lt small w = record { sets = λ _. (length-set t (e .
         go (yes q) = inr (q, w)
         go (no n) = inl (sym (getD-set-other t (e .amount) x true false n) ∙ o)
 
-pub ran-none : {e : Operation} {at : ℕ} {p t : List Bool} → e .kind ≡ 4 → length t ≡ 256 → ((k : ℕ) × (k < 256) × Has p (256 + k) → ⊥) → Ran e at p t t
-ran-none k lt f = record { sets = λ _. (lt, λ v o. o, λ v l o. absurd (f (v, l, o)), λ x o. inl o); joins = λ n. absurd (n k) }
+pub ran-none : {e : Operation} {at : ℕ} {p t : List Bool} → isSet e ≡ true → length t ≡ 256 → ((k : ℕ) × (k < 256) × Has p (256 + k) → ⊥) → Ran e at p t t
+ran-none k lt f = record { sets = λ _. (lt, λ v o. o, λ v l o. absurd (f (v, l, o)), λ x o. inl o); joins = λ n. absurd (clash n k) }
 
-pub ran-joined : {e : Operation} {at : ℕ} {p t r : List Bool} → (e .kind ≡ 4 → ⊥) → Joined 256 at p t r → Ran e at p t r
-ran-joined n j = record { sets = λ k. absurd (n k); joins = λ _. j }
+pub ran-joined : {e : Operation} {at : ℕ} {p t r : List Bool} → isSet e ≡ false → Joined 256 at p t r → Ran e at p t r
+ran-joined n j = record { sets = λ k. absurd (clash n k); joins = λ _. j }
 
 -- The marks l widened below j.
 pub record Widening (j : ℕ) (e : Operation) (l r : List (List Bool)) : Type 0 where

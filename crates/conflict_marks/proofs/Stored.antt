@@ -13,6 +13,10 @@ use Rattle.conflict_marks.specs.Marks.{Has, Blank, Laid, Joined}
 pub clash : {b : Bool} → b ≡ false → b ≡ true → ⊥
 clash e h = false≢true (sym e ∙ h)
 
+pub or-either : (a b : Bool) → (a || b) ≡ true → (a ≡ true) ⊎ (b ≡ true)
+or-either true b e = inl refl
+or-either false b e = inr e
+
 pub below : (s : List Bool) (v : ℕ) → length (s) ≡ 256 → Has s v → v < 256
 below s v l h = go (decLt v 256)
   where

@@ -73,7 +73,7 @@ pub struct Span {
 }
 
 // The values whose response is that of u. Of an add or take that succeeds at u: those where it does; of one that fails:
-// only u, which the response tells. Of a read: only u; of a set: all.
+// only u, which the response tells. Of a read: only u; of every other kind: all.
 pub fn same_span(e: Operation, u: u8) -> Span
     ensures { λ r. ⌜ SameSpan e u (r .lo) (r .hi) ⌝ }
 {

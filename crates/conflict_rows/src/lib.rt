@@ -14,7 +14,7 @@ pub fn run_into(into: &mut [bool; 256], wide: &[bool; 768], e: Operation, at: us
     requires { ⌜ (at ≤ 512) × (length (now into) ≡ 256) ⌝ }
     ensures { λ _. ⌜ Ran e at (now (wide .entry)) (now (into .entry)) (now (into .exit)) ⌝ }
 {
-    if e.kind == 4 {
+    if (e.kind == 4) | (e.kind == 5) {
         if conflict_marks::any_marked(wide, 256) {
             let a = e.amount as usize;
             into[a] = true;
@@ -36,12 +36,12 @@ pub fn any_other(wide: &[bool; 768], e: Operation, u: u8) -> bool
     below | above
 }
 
-// Adds to each of the first m + 1 what one of the others' operations makes of it, laid out in `wide`. (A read makes nothing new.)
+// Adds to each of the first m + 1 what one of the others' operations makes of it, laid out in `wide`. (A read, of a value or of a temperature, makes nothing new.)
 pub fn widen(reach: &mut [[bool; 256]; 33], wide: &mut [bool; 768], m: usize, e: Operation)
     requires { ⌜ (m ≤ maxPending) × (length (now reach) ≡ 33) × ((j : ℕ) → j ≤ m → length (marksAt (now reach) j) ≡ 256) × Blank (now wide) ⌝ }
     ensures { λ _. ⌜ Widened m e (now (reach .entry)) (now (reach .exit)) × Blank (now (wide .exit)) ⌝ }
 {
-    if e.kind == 3 {
+    if (e.kind == 3) | (e.kind == 6) {
         return;
     }
     let at = conflict_marks::moved_from(e, true);

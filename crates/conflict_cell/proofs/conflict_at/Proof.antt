@@ -5,7 +5,7 @@ use native.Mathlib.Omega.{arith}
 use borrow.Author.Needs.{needs}
 use borrow.Author.Count.{below-more}
 use lib.ListN.{length, take, drop, length-set}
-use Rattle.operation.specs.Operation.{value, response}
+use Rattle.operation.specs.Operation.{value, valueResponse}
 use Rattle.conflict_marks.specs.Marks.{Has, Blank, marksAt}
 use Rattle.conflict_marks.proofs.Stored.{clash, below, laid-blank, blank-first}
 use Rattle.conflict_marks.proofs.Moved.{own-moved}
@@ -19,7 +19,7 @@ use Rattle.conflict_cell.proofs.conflict_at.Tie as tie
 
 abbrev Inv-loop2 : tie.InvT-loop2
 Inv-loop2 start n m others own reach x wide i u j w expected v₀ v =
-    (v ≤ 256) × ((x : ℕ) → x < v → Has (marksAt reach j) x → response w x ≡ expected)
+    (v ≤ 256) × ((x : ℕ) → x < v → Has (marksAt reach j) x → valueResponse w x ≡ expected)
 
 abbrev μ-loop2 : tie.MeasureT-loop2
 μ-loop2 start n m others own reach x wide i u j w expected v₀ v = 256 - v
@@ -27,7 +27,7 @@ abbrev μ-loop2 : tie.MeasureT-loop2
 abbrev Inv-loop : tie.InvT-loop
 Inv-loop start n m others own reach₀ x wide₀ i u₀ j₀ reach wide u j =
     (j ≤ m) × (u ≡ alone start (take m own) j) × (length reach ≡ 33) × Closed start (take m own) reach j
-    × Held start (take m own) (Differs value response start start (take n others) (take m own)) (drop i (take n others)) reach × Blank wide
+    × Held start (take m own) (Differs value valueResponse start start (take n others) (take m own)) (drop i (take n others)) reach × Blank wide
 
 abbrev μ-loop : tie.MeasureT-loop
 μ-loop start n m others own reach₀ x wide₀ i u₀ j₀ reach wide u j = m - j
@@ -35,7 +35,7 @@ abbrev μ-loop : tie.MeasureT-loop
 abbrev Inv-search : tie.InvT-search
 Inv-search start n m others own reach₀ x wide₀ i₀ reach wide i =
     (i ≤ n) × (length reach ≡ 33)
-    × Held start (take m own) (Differs value response start start (take n others) (take m own)) (drop i (take n others)) reach × Blank wide
+    × Held start (take m own) (Differs value valueResponse start start (take n others) (take m own)) (drop i (take n others)) reach × Blank wide
 
 abbrev μ-search : tie.MeasureT-search
 μ-search start n m others own reach₀ x wide₀ i₀ reach wide i = n - i
@@ -60,9 +60,9 @@ mul-w c = search needs
 array-copy-out-w : tie.Need-array-copy-out-w Inv-loop2 μ-loop2 Inv-loop μ-loop Inv-search μ-search
 array-copy-out-w c = search needs
 
-response-to-requires :
-    tie.Need-response-to-requires Inv-loop2 μ-loop2 Inv-loop μ-loop Inv-search μ-search
-response-to-requires c κs = search needs
+value-response-requires :
+    tie.Need-value-response-requires Inv-loop2 μ-loop2 Inv-loop μ-loop Inv-search μ-search
+value-response-requires c κs = search needs
 
 mul-lay-out : tie.Need-mul-lay-out Inv-loop2 μ-loop2 Inv-loop μ-loop Inv-search μ-search
 mul-lay-out c = search needs
@@ -95,12 +95,12 @@ index-2-if2 c =
     let l = c .before .before .before .before .before .before .before .before .before .before .before .loop in
     search (needs, own-long (a .start) (a .m) (a .t4) (search needs) (l .inv .4) (l .j) (omega arith))
 
-cast-response-to : tie.Need-cast-response-to Inv-loop2 μ-loop2 Inv-loop μ-loop Inv-search μ-search
-cast-response-to c = search needs
+cast-value-response : tie.Need-cast-value-response Inv-loop2 μ-loop2 Inv-loop μ-loop Inv-search μ-search
+cast-value-response c = search needs
 
-response-to-requires-2 :
-    tie.Need-response-to-requires-2 Inv-loop2 μ-loop2 Inv-loop μ-loop Inv-search μ-search
-response-to-requires-2 c κs = search needs
+value-response-requires-2 :
+    tie.Need-value-response-requires-2 Inv-loop2 μ-loop2 Inv-loop μ-loop Inv-search μ-search
+value-response-requires-2 c κs = search needs
 
 add-v : tie.Need-add-v Inv-loop2 μ-loop2 Inv-loop μ-loop Inv-search μ-search
 add-v c = search needs
@@ -150,10 +150,10 @@ loop-again : tie.Need-loop-again Inv-loop2 μ-loop2 Inv-loop μ-loop Inv-search 
 loop-again c =
     let a = c .before .before .before .before .before .before .before .before .before .before .before .before .before .before .before .before .args in
     let l = c .before .before .before .before .before .before .before .before .before .before .before .before .before .before .loop in
-    let x = c .before .before .before .before .before .before .before .before .before .before .before .response-to in
+    let x = c .before .before .before .before .before .before .before .before .before .before .before .value-response in
     let y = c .before .before .before .before .before .before .before .before .lay-out .ensures in
     let long = own-long (a .start) (a .m) (a .t4) (search needs) (l .inv .4) (l .j) (omega arith) in
-    let same : (v : ℕ) → Has (marksAt (l .reach) (l .j)) v → response (opNo (a .t4) (l .j)) v ≡ response (opNo (a .t4) (l .j)) (l .u) =
+    let same : (v : ℕ) → Has (marksAt (l .reach) (l .j)) v → valueResponse (opNo (a .t4) (l .j)) v ≡ valueResponse (opNo (a .t4) (l .j)) (l .u) =
     ⊎-elim
     (λ s v o. s .1 .inv .1 v (omega (arith, below (marksAt (l .reach) (l .j)) v long o, s .2 .left)) o ∙ x .ensures)
     (λ s v o. none-other _ _ y (c .before .before .before .before .before .before .any-other .ensures) (s .left) v o)
@@ -208,8 +208,8 @@ returns-2 : tie.Need-returns-2 Inv-loop2 μ-loop2 Inv-loop μ-loop Inv-search μ
 returns-2 c =
     let a = c .before .before .before .before .before .before .before .before .before .before .before .before .before .before .before .before .before .args in
     let l = c .before .before .before .before .before .before .before .before .before .before .before .before .before .before .before .loop in
-    let x = c .before .before .before .before .before .before .before .before .before .before .before .before .response-to in (
-      (λ e. differs-at (a .start) (a .m) (a .t4) (search needs) (l .j) (l .u) (c .before .before .before .before .before .loop2 .v) (l .inv .4) (omega arith) (l .inv .1) (c .before .before .if2 .taken) (λ e. c .if3 .taken (c .before .response-to2 .ensures ∙ e ∙ sym (x .ensures)))),
+    let x = c .before .before .before .before .before .before .before .before .before .before .before .before .value-response in (
+      (λ e. differs-at (a .start) (a .m) (a .t4) (search needs) (l .j) (l .u) (c .before .before .before .before .before .loop2 .v) (l .inv .4) (omega arith) (l .inv .1) (c .before .before .if2 .taken) (λ e. c .if3 .taken (c .before .value-response2 .ensures ∙ e ∙ sym (x .ensures)))),
       λ g. refl,
     )
 
@@ -229,7 +229,7 @@ conflict-at-spec =
     loop-holds
     mul-w
     array-copy-out-w
-    response-to-requires
+    value-response-requires
     mul-lay-out
     index-1-lay-out
     lay-out-requires
@@ -238,8 +238,8 @@ conflict-at-spec =
     mul-if2
     index-1-if2
     index-2-if2
-    cast-response-to
-    response-to-requires-2
+    cast-value-response
+    value-response-requires-2
     add-v
     loop2-less
     loop2-again

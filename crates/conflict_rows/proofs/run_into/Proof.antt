@@ -17,10 +17,10 @@ merge-requires : tie.Need-merge-requires
 merge-requires c κs = search needs
 
 returns : tie.Need-returns
-returns c = ran-set (c .before .before .before .if1 .taken) (c .before .before .before .before .before .pre .1) (search needs) (c .before .before .any-marked .ensures .0 (c .before .if2 .taken))
+returns c = ran-set (c .before .before .before .if1 .taken) (c .before .before .before .before .before .before .pre .1) (search needs) (c .before .before .any-marked .ensures .0 (c .before .if2 .taken))
 
 returns-2 : tie.Need-returns-2
-returns-2 c = ran-none (c .before .before .if1 .taken) (c .before .before .before .before .pre .1) (λ w. clash (c .if2 .left) (c .before .any-marked .ensures .1 w))
+returns-2 c = ran-none (c .before .before .if1 .taken) (c .before .before .before .before .before .pre .1) (λ w. clash (c .if2 .left) (c .before .any-marked .ensures .1 w))
 
 returns-3 : tie.Need-returns-3
 returns-3 c = ran-joined (c .before .before .if1 .left) (c .merge .ensures)

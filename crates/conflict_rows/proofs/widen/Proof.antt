@@ -22,13 +22,13 @@ abbrev μ-loop : tie.MeasureT-loop
 μ-loop reach₀ wide₀ m e at j₀ reach wide j = m + 1 - j
 
 returns : tie.Need-returns Inv-loop μ-loop
-returns c = (record { long = c .before .before .pre .1; each = λ j h. read-moved (c .if1 .taken) (c .before .before .pre .2 j h) }, c .before .before .pre .3)
+returns c = (record { long = c .before .before .before .pre .1; each = λ j h. read-moved (c .if1 .taken) (c .before .before .before .pre .2 j h) }, c .before .before .before .pre .3)
 
 moved-from-requires : tie.Need-moved-from-requires Inv-loop μ-loop
 moved-from-requires c κs = search needs
 
 loop-holds : tie.Need-loop-holds Inv-loop μ-loop
-loop-holds c = (omega arith, c .before .before .before .pre .3, none-widened (c .before .before .before .pre .1))
+loop-holds c = (omega arith, c .before .before .before .before .pre .3, none-widened (c .before .before .before .before .pre .1))
 
 mul-lay-out : tie.Need-mul-lay-out Inv-loop μ-loop
 mul-lay-out c = search needs
@@ -37,7 +37,7 @@ index-1-lay-out : tie.Need-index-1-lay-out Inv-loop μ-loop
 index-1-lay-out c = search needs
 
 lay-out-requires : tie.Need-lay-out-requires Inv-loop μ-loop
-lay-out-requires c κs = (row (c .before .before .before .loop .inv .2) (c .before .before .before .before .before .before .before .pre .2 (c .before .before .before .loop .j) (omega arith)), c .before .before .before .loop .inv .1)
+lay-out-requires c κs = (row (c .before .before .before .loop .inv .2) (c .before .before .before .before .before .before .before .before .pre .2 (c .before .before .before .loop .j) (omega arith)), c .before .before .before .loop .inv .1)
 
 mul-run-into : tie.Need-mul-run-into Inv-loop μ-loop
 mul-run-into c = search needs
@@ -46,7 +46,7 @@ index-1-run-into : tie.Need-index-1-run-into Inv-loop μ-loop
 index-1-run-into c = search needs
 
 run-into-requires : tie.Need-run-into-requires Inv-loop μ-loop
-run-into-requires c κs = (c .before .before .before .before .before .before .before .moved-from .ensures .0, row (c .before .before .before .before .before .before .loop .inv .2) (c .before .before .before .before .before .before .before .before .before .before .pre .2 (c .before .before .before .before .before .before .loop .j) (omega arith)))
+run-into-requires c κs = (c .before .before .before .before .before .before .before .moved-from .ensures .0, row (c .before .before .before .before .before .before .loop .inv .2) (c .before .before .before .before .before .before .before .before .before .before .before .pre .2 (c .before .before .before .before .before .before .loop .j) (omega arith)))
 
 add-j : tie.Need-add-j Inv-loop μ-loop
 add-j c = search needs
@@ -58,7 +58,7 @@ loop-again : tie.Need-loop-again Inv-loop μ-loop
 loop-again c =
     let l = c .before .before .before .before .before .before .before .loop in
     let y = c .before .before .before .lay-out .ensures in
-    (omega arith, laid-blank y, one-widened (l .inv .2) (omega arith) (c .before .before .before .before .before .before .before .before .before .before .before .pre .2 (l .j) (omega arith)) (c .before .before .before .before .before .before .before .before .moved-from .ensures .1) y (c .run-into .ensures))
+    (omega arith, laid-blank y, one-widened (l .inv .2) (omega arith) (c .before .before .before .before .before .before .before .before .before .before .before .before .pre .2 (l .j) (omega arith)) (c .before .before .before .before .before .before .before .before .moved-from .ensures .1) y (c .run-into .ensures))
 
 returns-2 : tie.Need-returns-2 Inv-loop μ-loop
 returns-2 c =
