@@ -15,6 +15,7 @@ use Rattle.replica.proofs.Places.{no-values-length, none-ok, none-status, none-
 use Rattle.checks.proofs.Laws.{all-yes, and-yes, call-cases}
 use Rattle.replica.proofs.Laws.{ranged, in-range, Sized, Sound, stop-sound}
 use Rattle.client_open.specs.Open.{openNo}
+use Rattle.operation.proofs.Temps.{zero-temps}
 use Rattle.client_invoke.specs.Invoke.{invokeNo, newOp, invokedReplica, invokeMessage, invokeStep}
 use Rattle.client_invoke.proofs.Laws.{invoke-yes}
 
@@ -47,7 +48,7 @@ module _ (n : ℕ) (keys : List ℕ) (e : openNo n keys ≡ 0) where
         statuses = none-ok;
         unused = none-status;
         rest = none-held;
-        temps = refl;
+        temps = zero-temps;
       })
 
   pub open-sized : Sized (freshReplica n keys)

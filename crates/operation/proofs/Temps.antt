@@ -6,10 +6,10 @@ use mathlib.Core.List.{List, [], _∷_}
 use lib.Dec.{leb, eqb}
 use lib.ListN.{length, getD}
 use Rattle.slices.specs.Bytes.{all}
-use Rattle.slices.proofs.Laws.{and-yes, all-set}
+use Rattle.slices.proofs.Laws.{and-yes, all-set, all-replicate}
 use Rattle.operation.specs.declared.Operation.{Operation}
 use Rattle.operation.specs.declared.Cells.{Cells}
-use Rattle.operation.specs.Operation.{maxCount, signed, tempOk, lastOk, allowed, opOk, tempsOk, numberAt, temp, after, effect}
+use Rattle.operation.specs.Operation.{maxCount, signed, tempOk, lastOk, allowed, opOk, zeroCells, tempsOk, numberAt, temp, after, effect}
 use Rattle.operation.proofs.Laws.{values-length, temps-length}
 
 -- sixteen of each
@@ -25,6 +25,9 @@ effect-sixteen false e s h = h
 tempOk-zero : tempOk 0 ≡ true
 unfolding tempOk signed
 tempOk-zero = refl
+
+pub zero-temps : tempsOk zeroCells ≡ true
+zero-temps = all-replicate tempOk 16 0 tempOk-zero
 
 all-at : (p : ℕ → Bool) (s : List ℕ) (i : ℕ) → all p s ≡ true → p 0 ≡ true → p (getD s i 0) ≡ true
 unfolding all
