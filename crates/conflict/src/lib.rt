@@ -7,7 +7,7 @@ ghost use lib.ListN.{length, take};
 ghost use Rattle.operation.specs.Operation.{maxPending, value, valueResponse};
 ghost use Rattle.conflict.specs.Conflict.{conflicts};
 ghost use Rattle.conflict_cell.specs.Differs.{Differs};
-ghost use Rattle.conflict.specs.Cells.{changed, answered, onCell, tempPart, tempParts};
+ghost use Rattle.conflict.specs.Cells.{changed, answered, onCell, isTemp, tempPart, tempParts};
 use operation::Cells;
 use operation::Operation;
 
@@ -96,6 +96,13 @@ fn differs_on(
     false
 }
 
+// Whether the operation is about temperatures.
+fn is_temp(e: Operation) -> bool
+    ensures { λ r. ⌜ r ≡ isTemp e ⌝ }
+{
+    (e.kind == 5) | (e.kind == 6)
+}
+
 // What an operation of kind 5 or 6 is to temperatures, as an operation on numbers: a set to its last byte, or a read.
 fn temp_part(e: Operation) -> Operation
     ensures { λ r. ⌜ r ≡ tempPart e ⌝ }
@@ -128,7 +135,7 @@ fn count_temps(ops: [Operation; operation::MAX_PENDING], n: usize) -> usize
     let mut i = 0;
     while i < n {
         let e = ops[i];
-        if (e.kind == 5) | (e.kind == 6) {
+        if is_temp(e) {
             c += 1;
         }
         i += 1;
@@ -149,7 +156,7 @@ fn gather_temps(
     let mut i = 0;
     while i < n {
         let e = ops[i];
-        if (e.kind == 5) | (e.kind == 6) {
+        if is_temp(e) {
             let p = temp_part(e);
             new[c] = p;
             c += 1;
@@ -171,15 +178,21 @@ fn temps_differ(
     requires { ⌜ (n ≤ maxPending) × (m ≤ maxPending) ⌝ }
     ensures { λ r. ⌜ (r ≡ true) ↔ Differs changed answered temps temps (tempParts (take n others)) (tempParts (take m own)) ⌝ }
 {
-    let b = count_temps(own, m);
-    if b == 0 {
+    let own_count = count_temps(own, m);
+    if own_count == 0 {
         return false;
     }
-    let a = count_temps(others, n);
-    if a == 0 {
+    let other_count = count_temps(others, n);
+    if other_count == 0 {
         return false;
     }
-    differs_on(temps, gather_temps(others, n), a, gather_temps(own, m), b)
+    differs_on(
+        temps,
+        gather_temps(others, n),
+        other_count,
+        gather_temps(own, m),
+        own_count,
+    )
 }
 
 // The number, at most `MAX_PENDING`.

@@ -25,6 +25,9 @@ mul-e c = search needs
 array-copy-out-e : tie.Need-array-copy-out-e Inv-loop μ-loop
 array-copy-out-e c = search needs
 
+is-temp-requires : tie.Need-is-temp-requires Inv-loop μ-loop
+is-temp-requires c κs = search needs
+
 add-c : tie.Need-add-c Inv-loop μ-loop
 add-c c = search needs
 
@@ -36,12 +39,13 @@ loop-less c = search needs
 
 loop-again : tie.Need-loop-again Inv-loop μ-loop
 loop-again c =
-    let a = c .before .before .before .before .before .before .args in
-    let l = c .before .before .before .before .before .loop in
+    let a = c .before .before .before .before .before .args in
+    let l = c .before .before .before .before .loop in
+    let x = c .before .is-temp .ensures in
     let h : l .i < length (a .t1) = search needs in
     ⊎-elim
-    (λ w. (omega arith, omega arith, w .1 ∙ ap (λ x. x + 1) (l .inv .2) ∙ sym (count-more isTemp tempPart (a .t1) (l .i) h (w .0 .taken))))
-    (λ w. (omega arith, omega arith, w .1 ∙ l .inv .2 ∙ ap length (sym (out-take isTemp tempPart (a .t1) (l .i) h (w .0 .left)))))
+    (λ w. (omega arith, omega arith, w .1 ∙ ap (λ x. x + 1) (l .inv .2) ∙ sym (count-more isTemp tempPart (a .t1) (l .i) h (sym x ∙ w .0 .taken))))
+    (λ w. (omega arith, omega arith, w .1 ∙ l .inv .2 ∙ ap length (sym (out-take isTemp tempPart (a .t1) (l .i) h (sym x ∙ w .0 .left)))))
     (c .if1 .came)
 
 returns : tie.Need-returns Inv-loop μ-loop
@@ -58,6 +62,7 @@ count-temps-spec =
     loop-holds
     mul-e
     array-copy-out-e
+    is-temp-requires
     add-c
     add-i
     loop-less

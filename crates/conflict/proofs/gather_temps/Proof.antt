@@ -26,6 +26,9 @@ mul-e c = search needs
 array-copy-out-e : tie.Need-array-copy-out-e Inv-loop μ-loop
 array-copy-out-e c = search needs
 
+is-temp-requires : tie.Need-is-temp-requires Inv-loop μ-loop
+is-temp-requires c κs = search needs
+
 temp-part-requires : tie.Need-temp-part-requires Inv-loop μ-loop
 temp-part-requires c κs = search needs
 
@@ -46,8 +49,9 @@ loop-less c = search needs
 
 loop-again : tie.Need-loop-again Inv-loop μ-loop
 loop-again c =
-    let a = c .before .before .before .before .before .before .args in
-    let l = c .before .before .before .before .before .loop in
+    let a = c .before .before .before .before .before .args in
+    let l = c .before .before .before .before .loop in
+    let x = c .before .is-temp .ensures in
     let h : l .i < length (a .t1) = search needs in
     ⊎-elim
     (λ w. (
@@ -55,9 +59,9 @@ loop-again c =
       omega arith,
       ap length (w .2) ∙ length-set (l .new) (l .c) (w .1 .result) ∙ l .inv .2,
       rw (w .2, w .3, w .1 .ensures) (put-more (l .new) (tempParts (take (l .i) (a .t1))) (l .c) (tempPart (getD (a .t1) (l .i) noOp)) (omega arith) (l .inv .3)
-          ∙ sym (in-take isTemp tempPart (a .t1) (l .i) h (w .0 .taken))),
+          ∙ sym (in-take isTemp tempPart (a .t1) (l .i) h (sym x ∙ w .0 .taken))),
     ))
-    (λ w. (omega arith, omega arith, ap length (w .1) ∙ l .inv .2, rw (w .1, w .2) (l .inv .3 ∙ sym (out-take isTemp tempPart (a .t1) (l .i) h (w .0 .left)))))
+    (λ w. (omega arith, omega arith, ap length (w .1) ∙ l .inv .2, rw (w .1, w .2) (l .inv .3 ∙ sym (out-take isTemp tempPart (a .t1) (l .i) h (sym x ∙ w .0 .left)))))
     (c .if1 .came)
 
 returns : tie.Need-returns Inv-loop μ-loop
@@ -76,6 +80,7 @@ gather-temps-spec =
     loop-holds
     mul-e
     array-copy-out-e
+    is-temp-requires
     temp-part-requires
     mul-new
     array-set-from-new
