@@ -58,15 +58,15 @@ rest keys = e₃ keys ∷ e₄ keys ∷ confirmEvent 2 (b₀ keys) (kB keys) ∷
 abbrev log : List ℕ → List Logged
 log keys = e₁ keys ∷ e₂ keys ∷ rest keys
 
--- what client 2 confirms, and its cells after it
-abbrev cells₉ : Cells
-cells₉ = record { values = 9 ∷ replicate 15 0; temps = replicate 16 0 }
+-- what client 2 confirms, and its cells after each
+abbrev cellsAfter : Cells
+cellsAfter = record { values = 9 ∷ replicate 15 0; temps = replicate 16 0 }
 
 abbrev cB : Confirmation
-cB = record { entry = record { op = oB; author = 1; seq = 1; status = 1 }; cells = cells₉ }
+cB = record { entry = record { op = oB; author = 1; seq = 1; status = 1 }; cells = cellsAfter }
 
 abbrev cA : Confirmation
-cA = record { entry = record { op = oA; author = 1; seq = 2; status = 1 }; cells = cells₉ }
+cA = record { entry = record { op = oA; author = 1; seq = 2; status = 1 }; cells = cellsAfter }
 
 module _ (keys : List ℕ) (L : length keys ≡ 256) where
   the-run : Run (start keys) (calls keys) (log keys)
@@ -147,15 +147,15 @@ module _ (keys : List ℕ) (L : length keys ≡ 256) where
   history₂ : history 2 (log keys) ≡ cB ∷ cA ∷ []
   unfolding history allOf caller messageOf taken confirmedReplica effect after value temp
   history₂ =
-      (λ t. record { entry = entryOf (broadcast-read (kB keys) (gB keys) t); cells = cells₉ }
-      ∷ record { entry = entryOf (broadcast-read (kA keys) (gA keys) t); cells = cells₉ } ∷ [])
+      (λ t. record { entry = entryOf (broadcast-read (kB keys) (gB keys) t); cells = cellsAfter }
+      ∷ record { entry = entryOf (broadcast-read (kA keys) (gA keys) t); cells = cellsAfter } ∷ [])
 
   got : Got 1 oA (responded 2 (pos 0)) (e₂ keys)
   unfolding caller messageOf replyBytes
   got = record { by = refl; last = ap (λ (i : Item). i .op) (second-item (a₁ keys) (iB keys) (iA keys) (fB keys) (fA keys)); told = refl; reply = answer }
 
   fails : Agreement (log keys) → ⊥
-  unfolding Agreement entries due runEntries effect after value temp responseOn response valueResponse
+  unfolding Agreement entries due runEntries effect after value responseOn response valueResponse
   fails A =
       let G = A 2 2 (cB ∷ []) [] (cB ∷ []) [] cA cA history₂ history₂ refl refl .answers (cB .entry ∷ []) [] (cA .entry) refl in
       let e : responded 2 (pos 0) ≡ responded 2 (pos 9) = G .only (List·Memᴰ·tail first) got refl in

@@ -1,5 +1,5 @@
 -- Not empty: with any 256 key bytes, a run that is not let off, in which clients 1 and 2 make an operation each, the second one is aborted,
--- and both clients confirm both.
+-- and both clients confirm both. (The first one sets a temperature below 0, for which the second one asks: document 02, Q-2.)
 use Prim.Native.Nat.{ℕ}
 use mathlib.Core.Path.{_≡_, refl, _∙_, ap}
 use mathlib.Core.List.{List, [], _∷_, map, List·Memᴰ, List·Memᴰ·head, List·Memᴰ·tail}
@@ -25,9 +25,9 @@ use Rattle.agreement_runs.proofs.TwoAuthorsSteps.{sa₁, sb₁, passes�
 
 abbrev calls : List ℕ → List Call
 calls keys =
-    invoke 1 4 0 7 0 43
+    invoke 1 5 0 7 251 43
     ∷ receive 1 (replyBytes (i₁ keys ∷ [])) 80
-    ∷ invoke 2 3 0 0 0 43
+    ∷ invoke 2 6 0 0 0 43
     ∷ receive 2 (replyBytes (i₁ keys ∷ i₂ keys ∷ [])) 80
     ∷ receive 1 (broadcastBytes (k₁ keys)) 0
     ∷ receive 2 (broadcastBytes (k₁ keys)) 0
@@ -36,13 +36,13 @@ calls keys =
     ∷ []
 
 abbrev e₁ : List ℕ → Logged
-e₁ keys = madeEvent 1 (a₀ keys) 4 0 7 0
+e₁ keys = madeEvent 1 (a₀ keys) 5 0 7 251
 
 abbrev e₂ : List ℕ → Logged
 e₂ keys = replyEvent 1 (a₁ keys) (i₁ keys ∷ []) 1 false (pos 1)
 
 abbrev e₃ : List ℕ → Logged
-e₃ keys = madeEvent 2 (b₀ keys) 3 0 0 0
+e₃ keys = madeEvent 2 (b₀ keys) 6 0 0 0
 
 abbrev e₄ : List ℕ → Logged
 e₄ keys = replyEvent 2 (b₁ keys) (i₁ keys ∷ i₂ keys ∷ []) 2 true (pos 0)
@@ -56,14 +56,14 @@ log keys =
     ∷ confirmEvent 2 (b₃ keys) (k₂ keys)
     ∷ []
 
--- what both clients confirm, and their cells after it
-abbrev cells₇ : Cells
-cells₇ = record { values = 7 ∷ replicate 15 0; temps = replicate 16 0 }
+-- what both clients confirm, and their cells after each: the temperature is −5
+abbrev pub cellsAfter : Cells
+cellsAfter = record { values = 7 ∷ replicate 15 0; temps = 251 ∷ replicate 15 0 }
 
 abbrev pub both : List Confirmation
 both =
-    record { entry = record { op = o₁; author = 1; seq = 1; status = 1 }; cells = cells₇ }
-    ∷ record { entry = record { op = o₂; author = 2; seq = 2; status = 0 }; cells = cells₇ }
+    record { entry = record { op = o₁; author = 1; seq = 1; status = 1 }; cells = cellsAfter }
+    ∷ record { entry = record { op = o₂; author = 2; seq = 2; status = 0 }; cells = cellsAfter }
     ∷ []
 
 module _ (keys : List ℕ) (L : length keys ≡ 256) where
@@ -86,11 +86,11 @@ module _ (keys : List ℕ) (L : length keys ≡ 256) where
   -- ---- who tagged what
   made₁ : (older : List Logged) → List·Memᴰ (e₁ keys) older → Tagged keys older 1 (invokeString o₁ 1)
   unfolding caller invokeTag tagBy
-  made₁ older m = record { event = e₁ keys; mem = m; by = refl; wrote = made-wrote (e₁ keys) 4 0 7 0 refl }
+  made₁ older m = record { event = e₁ keys; mem = m; by = refl; wrote = made-wrote (e₁ keys) 5 0 7 251 refl }
 
   made₂ : (older : List Logged) → List·Memᴰ (e₃ keys) older → Tagged keys older 2 (invokeString o₂ 2)
   unfolding caller invokeTag tagBy
-  made₂ older m = record { event = e₃ keys; mem = m; by = refl; wrote = made-wrote (e₃ keys) 3 0 0 0 refl }
+  made₂ older m = record { event = e₃ keys; mem = m; by = refl; wrote = made-wrote (e₃ keys) 6 0 0 0 refl }
 
   committed₁ : (older : List Logged) → List·Memᴰ (e₂ keys) older → Tagged keys older 1 (commitString o₁ 1 1 v₁ 1)
   unfolding caller
@@ -131,14 +131,14 @@ module _ (keys : List ℕ) (L : length keys ≡ 256) where
   history₁ : history 1 (log keys) ≡ both
   unfolding history allOf caller messageOf taken confirmedReplica repliedReplica effect after value temp
   history₁ =
-      (λ t. record { entry = entryOf (broadcast-read (k₁ keys) (g₁ keys) t); cells = cells₇ }
-      ∷ record { entry = entryOf (broadcast-read (k₂ keys) (g₂ keys) t); cells = cells₇ } ∷ [])
+      (λ t. record { entry = entryOf (broadcast-read (k₁ keys) (g₁ keys) t); cells = cellsAfter }
+      ∷ record { entry = entryOf (broadcast-read (k₂ keys) (g₂ keys) t); cells = cellsAfter } ∷ [])
 
   history₂ : history 2 (log keys) ≡ both
   unfolding history allOf caller messageOf taken confirmedReplica repliedReplica effect after value temp
   history₂ =
-      (λ t. record { entry = entryOf (broadcast-read (k₁ keys) (g₁ keys) t); cells = cells₇ }
-      ∷ record { entry = entryOf (broadcast-read (k₂ keys) (g₂ keys) t); cells = cells₇ } ∷ [])
+      (λ t. record { entry = entryOf (broadcast-read (k₁ keys) (g₁ keys) t); cells = cellsAfter }
+      ∷ record { entry = entryOf (broadcast-read (k₂ keys) (g₂ keys) t); cells = cellsAfter } ∷ [])
 
 pub record Witness (keys : List ℕ) : Type 0 where
   pub calls : List Call
