@@ -8,6 +8,7 @@ use native.Mathlib.Omega.{arith}
 use native.Mathlib.Nat.{eq-or-lt-of-le, le-of-suc-le-suc}
 use lib.ListN.{length}
 use Rattle.operation.specs.declared.Operation.{Operation}
+use Rattle.operation.specs.declared.Cells.{Cells}
 use Rattle.message.specs.declared.Commit.{Commit}
 use Rattle.message.specs.Message.{chainString, replyCount, replyItem, commitOf}
 use Rattle.round_trips.proofs.Operations.{ok-fits}
@@ -159,7 +160,7 @@ module _ (keys : List ℕ) (log : List Logged) (F : (e : Logged) → List·Mem�
     pub tgs : tags event ≡ broadcastCarried (commitOf (took event)) ∷ []
     pub ready : Ready keys (caller (event .call)) (event .before)
 
-  pub confirm-is : {i : ℕ} {v : List ℕ} {k : Commit} {cells : List ℕ} {o : List Ev} → Split log [] (confirm i v k cells) o → Confirms v k o
+  pub confirm-is : {i : ℕ} {v : List ℕ} {k : Commit} {cells : Cells} {o : List Ev} → Split log [] (confirm i v k cells) o → Confirms v k o
   confirm-is {i} {v} {k} {cells} {o} s = go (kind-of (s .event) (f .case))
     where
       f : Fine keys (s .event)

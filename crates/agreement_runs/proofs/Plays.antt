@@ -57,7 +57,7 @@ pub sound-after : (r : Replica) (c : Call) {s : Step} → Sound r → stepOf r c
 sound-after r c S e = subst (λ (s : Step). Sound (s .after .replica)) e (step-sound r c S)
 
 -- ---- an operation made
-abbrev pub madeEvent : ℕ → Replica → ℕ → ℕ → ℕ → Logged
+abbrev pub madeEvent : ℕ → Replica → ℕ → ℕ → ℕ → ℕ → Logged
 madeEvent i r kind cell amount last = record { call = invoke i kind cell amount last 43; before = r; step = invokedStep r kind cell amount last }
 
 pub made-step : (i : ℕ) (r : Replica) (kind cell amount last : ℕ) → invokeNo r kind cell amount last 43 ≡ 0 → stepOf r (invoke i kind cell amount last 43) ≡ madeEvent i r kind cell amount last .step
