@@ -40,7 +40,9 @@ template <class Side> static bool one_by_one(int start, const std::vector<Op> &o
     }
 }
 static bool values(int value, int temp, const std::vector<Op> &others, const std::vector<Op> &own) {
-    return one_by_one<Values>(value, others, own) || (by_temperature(others, own) && one_by_one<Temps>(temp, others, own));
+    using Ops = std::vector<Op>;
+    return one_by_one<Values>(value, others, own)
+           || on_temps(others, own, [&](const Ops &o, const Ops &w) { return one_by_one<Temps>(temp, o, w); });
 }
 
 struct Case {

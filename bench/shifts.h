@@ -5,6 +5,7 @@
 #include <algorithm>
 #include <bitset>
 #include <cstdint>
+#include <iterator>
 #include <vector>
 
 using Set = std::bitset<256>;
@@ -88,15 +89,18 @@ template <class Side, class Op> bool search(int start, const std::vector<Op> &ot
     }
 }
 
-template <class Op> bool any_of_kind(const std::vector<Op> &ops, int kind) {
-    return std::any_of(ops.begin(), ops.end(), [&](const Op &e) { return e.kind == kind; });
-}
-
-// Temperatures are gone through only where one is read and one is set.
-template <class Op> bool by_temperature(const std::vector<Op> &others, const std::vector<Op> &own) {
-    return any_of_kind(own, 6) && any_of_kind(others, 5);
+// A search on temperatures, over the operations that are about them, and only where one of the own reads one and one of the others' sets one.
+template <class Op, class F> bool on_temps(const std::vector<Op> &others, const std::vector<Op> &own, F test) {
+    if (std::none_of(own.begin(), own.end(), [](const Op &e) { return e.kind == 6; })) return false;
+    std::vector<Op> set, about;
+    std::copy_if(others.begin(), others.end(), std::back_inserter(set), [](const Op &e) { return e.kind == 5; });
+    if (set.empty()) return false;
+    std::copy_if(own.begin(), own.end(), std::back_inserter(about), [](const Op &e) { return e.kind == 5 || e.kind == 6; });
+    return test(set, about);
 }
 
 template <class Op> bool shifts(int value, int temp, const std::vector<Op> &others, const std::vector<Op> &own) {
-    return search<Values>(value, others, own) || (by_temperature(others, own) && search<Temps>(temp, others, own));
+    using Ops = std::vector<Op>;
+    return search<Values>(value, others, own)
+           || on_temps(others, own, [&](const Ops &o, const Ops &w) { return search<Temps>(temp, o, w); });
 }

@@ -22,12 +22,9 @@ fn slot(line: &[u8], k: usize) -> usize
 
 // Printing
 
-// A response without its sign.
-fn magnitude(response: Response) -> u64 {
-    if response < 0 {
-        return (0 - (response + 1)) as u64 + 1;
-    }
-    response as u64
+// A number without its sign.
+fn magnitude(z: i16) -> u32 {
+    if z < 0 { (-1 - z) as u32 + 1 } else { z as u32 }
 }
 
 // The word, the sequence number and the response, which has a minus sign where it is negative.
@@ -38,7 +35,7 @@ fn print_answer(seq: u32, response: Response) {
     } else {
         call_lines::print(b" ");
     }
-    io::print_decimal(STDOUT_FILENO, magnitude(response));
+    io::print_decimal(STDOUT_FILENO, magnitude(response) as u64);
 }
 
 fn print_event(event: Event) {
