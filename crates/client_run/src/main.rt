@@ -22,11 +22,6 @@ fn slot(line: &[u8], k: usize) -> usize
 
 // Printing
 
-// A number without its sign.
-fn magnitude(z: i16) -> u32 {
-    if z < 0 { (-1 - z) as u32 + 1 } else { z as u32 }
-}
-
 // The word, the sequence number and the response, which has a minus sign where it is negative.
 fn print_answer(seq: u32, response: Response) {
     call_lines::print_one(b"answer", seq as u64);
@@ -35,7 +30,7 @@ fn print_answer(seq: u32, response: Response) {
     } else {
         call_lines::print(b" ");
     }
-    io::print_decimal(STDOUT_FILENO, magnitude(response) as u64);
+    io::print_decimal(STDOUT_FILENO, text::magnitude(response) as u64);
 }
 
 fn print_event(event: Event) {

@@ -9,7 +9,7 @@ use Rattle.slices.specs.Bytes.{all}
 use Rattle.slices.proofs.Laws.{and-yes, all-set, all-replicate}
 use Rattle.operation.specs.declared.Operation.{Operation}
 use Rattle.operation.specs.declared.Cells.{Cells}
-use Rattle.operation.specs.Operation.{maxCount, signed, tempOk, lastOk, allowed, opOk, zeroCells, tempsOk, numberAt, temp, after, effect}
+use Rattle.operation.specs.Operation.{maxCount, signed, tempOk, lastByteOk, allowed, opOk, zeroCells, tempsOk, numberAt, temp, after, effect}
 use Rattle.operation.proofs.Laws.{values-length, temps-length}
 
 -- sixteen of each
@@ -37,7 +37,7 @@ all-at p (x ∷ s) (suc i) e z = all-at p s i (and-yes (p x) (all p s) e .1) z
 
 -- the last byte of an allowed operation of kind 5 is a temperature
 last-temp : (e : Operation) → opOk e ≡ true → eqb (e .kind) 5 ≡ true → tempOk (e .last) ≡ true
-unfolding opOk allowed lastOk
+unfolding opOk allowed lastByteOk
 last-temp e ok five =
     let a = and-yes (leb 1 (e .count) && leb (e .count) maxCount) (allowed (e .kind) (e .cell) (e .amount) (e .last)) ok .1 in
     let b : cond (eqb (e .kind) 5) (tempOk (e .last)) (eqb (e .last) 0) ≡ true

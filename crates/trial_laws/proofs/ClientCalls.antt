@@ -8,6 +8,7 @@ use lib.Dec.{leb, eqb}
 use lib.ListN.{length, drop}
 use borrow.Author.Tests.{eqb-true}
 use Rattle.operation.specs.declared.Operation.{Operation}
+use Rattle.operation.specs.Operation.{Response}
 use Rattle.message.specs.declared.Item.{Item}
 use Rattle.message.specs.Message.{isInvoke, isReply, marked, invokeBytes, replyCount}
 use Rattle.message.proofs.Laws.{item-length, invoke-item}
@@ -109,7 +110,7 @@ pub record Replying (q : Step) : Type 0 where
   pub one : written (q .wrote) ≡ q .wrote ∷ []
   pub idle : noCurrent (q .after .replica .current) ≡ true
 
-sent-reply : (a : Bool) (x seq n room : ℕ) → sent n room (saysOf a x seq) ≡ H.serve n room ∷ []
+sent-reply : (a : Bool) (x : Response) (seq n room : ℕ) → sent n room (saysOf a x seq) ≡ H.serve n room ∷ []
 unfolding sent
 sent-reply true x seq n room = refl
 sent-reply false x seq n room = refl

@@ -3,7 +3,6 @@ ghost use mathlib.Core.Path.{_≡_};
 ghost use mathlib.Core.List.{_++_};
 ghost use Prim.Native.Nat.{_+_, _≤_};
 ghost use lib.ListN.{length};
-ghost use lib.IntN.{natAbs};
 ghost use Rattle.slices.specs.Bytes.{put};
 ghost use Rattle.trial_said.specs.Word.{wordOf, datum, signedDatum, wordBytes, answer as answerWord};
 use operation::Response;
@@ -40,13 +39,6 @@ pub fn put_datum(out: &mut [u8], at: usize, n: u32) -> usize
     text::decimal(out, i, n as u64)
 }
 
-// A number without its sign.
-fn magnitude(z: i16) -> u32
-    ensures { λ r. ⌜ r ≡ natAbs z ⌝ }
-{
-    if z < 0 { (-1 - z) as u32 + 1 } else { z as u32 }
-}
-
 // A signed number after a space.
 fn put_signed(out: &mut [u8], at: usize, z: i16) -> usize
     requires { ⌜ at + 11 ≤ length (now out) ⌝ }
@@ -54,9 +46,9 @@ fn put_signed(out: &mut [u8], at: usize, z: i16) -> usize
 {
     if z < 0 {
         let i = put_bytes(out, at, b" -");
-        text::decimal(out, i, magnitude(z) as u64)
+        text::decimal(out, i, text::magnitude(z) as u64)
     } else {
-        put_datum(out, at, magnitude(z))
+        put_datum(out, at, text::magnitude(z))
     }
 }
 

@@ -1,8 +1,8 @@
 use native.Mathlib.Omega.{arith}
 use borrow.Author.Needs.{needs}
-use Rattle.trial_said.proofs.Signed.{small, as-it-is, less-fits, less-casts, one-more}
-use Rattle.trial_said.proofs.magnitude.Statement.{statement}
-use Rattle.trial_said.proofs.magnitude.Tie as tie
+use Rattle.text.proofs.Signed.{small, as-it-is, less-fits, less-casts, one-more}
+use Rattle.text.proofs.magnitude.Statement.{statement}
+use Rattle.text.proofs.magnitude.Tie as tie
 
 sub-result : tie.Need-sub-result
 sub-result c = less-fits _ (c .before .fits .z) (c .if1 .taken)
