@@ -18,7 +18,7 @@ use Rattle.checks.specs.Checks.{every}
 use Rattle.replica.specs.Replica.{inRange}
 use Rattle.checks.proofs.Laws.{Yes, every-each}
 use Rattle.replica.proofs.Laws.{Sized}
-use Rattle.client_reply_check.specs.ReplyChecks.{itemValue, itemChecks, lastByteOk, replyNo}
+use Rattle.client_reply_check.specs.ReplyChecks.{itemValue, itemChecks, lastOk, replyNo}
 use Rattle.client_reply.specs.Reply.{chainAfter, sortItem, sortTo, isAborted, lastResponse}
 use Rattle.client_laws.proofs.Chain.{item-taken, values-stay}
 use Rattle.client_laws.proofs.Passes.{reply-passes}
@@ -42,7 +42,7 @@ module _ (r : Replica) (i : Item) (f : ItemFits i) where
 
   pub one-passes : inRange r ≡ true → r .halt ≡ 0 → Yes (itemChecks r 1 0 i) → sameOp (i .op) (r .current) ≡ true → eqb (i .author) (r .number) ≡ true
       → replyNo r (replyBytes (i ∷ [])) 80 ≡ 0
-  unfolding replyBytes lastByteOk
+  unfolding replyBytes lastOk
   one-passes range clear y p q = reply-passes r one 80 range clear one-form (omega arith) items last
     where
       items : (k : ℕ) → k < 1 → Yes (itemChecks r 1 k (replyItem (replyBytes (i ∷ [])) k))
@@ -95,7 +95,7 @@ module _ (r : Replica) (i j : Item) (f : ItemFits i) (g : ItemFits j) where
 
   pub two-passes : inRange r ≡ true → r .halt ≡ 0 → Yes (itemChecks r 2 0 i) → Yes (itemChecks r 2 1 j) → sameOp (j .op) (r .current) ≡ true
       → eqb (j .author) (r .number) ≡ true → replyNo r (replyBytes (i ∷ j ∷ [])) 80 ≡ 0
-  unfolding replyBytes lastByteOk
+  unfolding replyBytes lastOk
   two-passes range clear y y′ p q = reply-passes r two 80 range clear two-form (omega arith) items last
     where
       items : (k : ℕ) → k < 2 → Yes (itemChecks r 2 k (replyItem (replyBytes (i ∷ j ∷ [])) k))
