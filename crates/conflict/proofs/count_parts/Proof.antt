@@ -1,7 +1,7 @@
 use Prim.Native.Nat.{_<_, _≤_, _-_, _+_}
 use mathlib.Core.Path.{_≡_, sym, ap, _∙_}
 use native.Mathlib.Omega.{arith}
-use mathlib.Core.Logic.{_⊎_, ⊎-elim}
+use mathlib.Core.Logic.{⊎-elim}
 use lib.ListN.{length, take}
 use Rattle.conflict.specs.Cells.{parts, hasPart, partOf, partsOf}
 use Rattle.conflict.proofs.Parts.{out-take, count-more}

@@ -1,7 +1,7 @@
 use Prim.Native.Nat.{_<_, _≤_, _-_}
 use mathlib.Core.Path.{_≡_, sym, ap, _∙_}
 use native.Mathlib.Omega.{arith}
-use mathlib.Core.Logic.{_⊎_, ⊎-elim}
+use mathlib.Core.Logic.{⊎-elim}
 use lib.ListN.{getD, length, take, length-set}
 use Rattle.operation.specs.Operation.{noOp}
 use Rattle.conflict.specs.Cells.{parts, hasPart, partOf, partsOf}
