@@ -58,7 +58,9 @@ struct Kept {
 struct ProvedClient {
     cop_replica r;
     explicit ProvedClient(uint8_t n) : r(cop_open(n, keys, sizeof keys).replica) {}
-    cop_said invoke(uint8_t kind, uint8_t cell, uint8_t amount, uint8_t *out, size_t room) { return cop_invoke(&r, kind, cell, amount, out, room); }
+    cop_said invoke(uint8_t kind, uint8_t cell, uint8_t amount, uint8_t last, uint8_t *out, size_t room) {
+        return cop_invoke(&r, kind, cell, amount, last, out, room);
+    }
     cop_said receive(const uint8_t *m, size_t n, uint8_t *out, size_t room) { return cop_receive(&r, m, n, out, room); }
 };
 struct ProvedServer {
@@ -175,13 +177,21 @@ static void next_broadcast(uint8_t *m, uint8_t *value, uint32_t seq, int author,
 // ---- the four agree on drawn runs of three clients, with damaged messages among them
 
 static std::mt19937 drawn(2);
+// Kind, cell, amount and last byte that are allowed, with temperatures about 0 or about their ends.
+static Op drawn_op(std::mt19937 &random, int cells, int amounts) {
+    static const int temps[] = {COP_TEMP_LEAST, -1, 0, 0, 1, 20, COP_TEMP_MOST};
+    Op o;
+    o.kind = 1 + random() % 6, o.cell = random() % cells, o.amount = o.kind == COP_READ || o.kind == COP_READ_TEMP ? 0 : random() % amounts;
+    o.last = o.kind == COP_SET_WITH_TEMP ? (uint8_t)temps[random() % 7] : 0;
+    return o;
+}
 static Message damaged(Message m) {
     if (drawn() % 20 == 0) m[drawn() % m.size()] ^= 1 << drawn() % 8;
     if (drawn() % 60 == 0) m.resize(drawn() % (m.size() + 1));
     return m;
 }
 static void agree() {
-    unsigned calls = 0, said[COP_BROADCAST + 1] = {};
+    unsigned calls = 0, negative = 0, said[COP_BROADCAST + 1] = {};
     for (int run = 0; run < 300; ++run) {
         Servers server;
         Clients cs[3] = {clients(1), clients(2), clients(3)};
@@ -191,8 +201,10 @@ static void agree() {
             size_t room = drawn() % 20 ? sizeof out : drawn() % 100;
             cop_said s;
             if (what == 0) {
-                int kind = drawn() % 30 ? 1 + drawn() % 4 : drawn() % 256, cell = drawn() % 3, amount = kind == COP_READ ? 0 : drawn() % 90;
-                s = together("invoke", cs[v], [&](auto &c) { return c.invoke(kind, cell, amount, out, room); });
+                Op o = drawn_op(drawn, 3, 90);
+                if (drawn() % 30 == 0) o.kind = drawn() % 256;
+                if (drawn() % 30 == 0) o.last = drawn() % 256;
+                s = together("invoke", cs[v], [&](auto &c) { return c.invoke(o.kind, o.cell, o.amount, o.last, out, room); });
                 if (s.what == COP_INVOKED) up[v].emplace_back(out, out + COP_IN);
             } else if (what == 1 && !up[v].empty()) {
                 Message m = damaged(up[v].front());
@@ -208,11 +220,11 @@ static void agree() {
                 if (s.what != COP_REFUSED) down[v].pop_front();
             } else
                 continue;
-            calls++, said[s.what]++;
+            calls++, said[s.what]++, negative += s.what == COP_RESPONDED && s.second < 0;
         }
     }
-    printf("%u drawn calls agree: %u refused, %u halted, %u responses, %u aborts, %u confirmations\n", calls, said[COP_REFUSED], said[COP_HALTED],
-           said[COP_RESPONDED], said[COP_ABORTED], said[COP_CONFIRMED]);
+    printf("%u drawn calls agree: %u refused, %u halted, %u responses (%u negative), %u aborts, %u confirmations\n", calls, said[COP_REFUSED],
+           said[COP_HALTED], said[COP_RESPONDED], negative, said[COP_ABORTED], said[COP_CONFIRMED]);
 }
 
 // ---- rows
@@ -229,7 +241,7 @@ static void broadcasts() {
     Clients fresh = clients(1);
     row("BR, not held", fresh, 1, 31, call);
     // a RE with client 1's own operation at 32 leaves 32 held
-    together("invoke", fresh, [&](auto &c) { return c.invoke(COP_READ, 0, 0, out, sizeof out); });
+    together("invoke", fresh, [&](auto &c) { return c.invoke(COP_READ, 0, 0, 0, out, sizeof out); });
     ins.push_back(item(1, 1, COP_READ, 0, 0));
     Message re = reply(ins);
     together("RE", fresh, [&](auto &c) { return c.receive(re.data(), re.size(), out, sizeof out); });
@@ -247,7 +259,7 @@ static void reply_row(const std::string &name, int n, bool worst) {
             ins.push_back(item(2, k, COP_ADD, worst ? 0 : 1 + k % 15, worst ? 1 << (k / 2 % 8) : 1));
             continue;
         }
-        together(name, cs, [&](auto &c) { return c.invoke(COP_ADD, 0, 0, out, sizeof out); });
+        together(name, cs, [&](auto &c) { return c.invoke(COP_ADD, 0, 0, 0, out, sizeof out); });
         ins.push_back(item(1, ++own, COP_ADD, 0, 0));
         re = reply(ins);
         if (k < n) together(name, cs, [&](auto &c) { return c.receive(re.data(), re.size(), out, sizeof out); });
@@ -290,7 +302,7 @@ template <class C, class S> struct Pair {
     S s;
     cop_said round(int k) {
         uint8_t in[COP_IN], co[COP_CO];
-        c.invoke(COP_ADD, k % 16, 1, in, sizeof in);
+        c.invoke(COP_ADD, k % 16, 1, 0, in, sizeof in);
         s.serve(1, in, sizeof in, out, sizeof out);
         c.receive(out, 44, co, sizeof co);
         s.serve(1, co, sizeof co, out, sizeof out);
@@ -327,8 +339,8 @@ static void replay() {
     for (uint32_t from = 0; from < COP_COUNT_MOST; from += part) {
         for (uint32_t k = 0; k < part; ++k) {
             int author = 1 + random() % 8;
-            Op o;
-            o.count = ++counts[author], o.kind = 1 + random() % 4, o.cell = random() % 16, o.amount = o.kind == COP_READ ? 0 : random() % 256;
+            Op o = drawn_op(random, 16, 256);
+            o.count = ++counts[author];
             next_broadcast(&brs[80 * k], value, from + k + 1, author, o, random() % 8 != 0);
         }
         int i = 0;
@@ -342,7 +354,7 @@ static void replay() {
         });
         if (from == 9 * part) early = kilobytes();
     }
-    if (memcmp(cs.a.r.cells, cs.b.cells, 16) != 0 || memcmp(cs.a.r.chain, cs.b.chain, 32) != 0) differ("replay's end");
+    if (memcmp(&cs.a.r.cells, &cs.b.cells, sizeof cs.b.cells) != 0 || memcmp(cs.a.r.chain, cs.b.chain, 32) != 0) differ("replay's end");
     for (double &x : t) x /= COP_COUNT_MOST;
     print("replay of 1,000,000, each", t);
     long late = kilobytes();
@@ -379,7 +391,7 @@ int main() {
     reply_row("RE of 8, longest conflict test", 8, true);
     reply_row("RE of 32, no conflict", 32, false);
     reply_row("RE of 32, longest conflict test", 32, true);
-    row("invoke", clients(1), 16, 1, [&](auto &c, int) { return c.invoke(COP_ADD, 3, 7, out, sizeof out); });
+    row("invoke", clients(1), 16, 1, [&](auto &c, int) { return c.invoke(COP_ADD, 3, 7, 0, out, sizeof out); });
     server_rows();
     rounds();
     replay();

@@ -26,11 +26,24 @@ inline Op get_op(const uint8_t *p) {
     o.count = get4(p), o.kind = p[4], o.cell = p[5], o.amount = p[6], o.last = p[7];
     return o;
 }
-inline bool may(int kind, int cell, int amount) { return 1 <= kind && kind <= 4 && cell < 16 && (kind != COP_READ || amount == 0); }
-inline bool allowed(const Op &o) { return 1 <= o.count && o.count <= COP_COUNT_MOST && may(o.kind, o.cell, o.amount) && o.last == 0; }
+inline bool temp_allowed(int8_t t) { return COP_TEMP_LEAST <= t && t <= COP_TEMP_MOST; }
+inline bool may(int kind, int cell, int amount, uint8_t last) {
+    return 1 <= kind && kind <= 6 && cell < 16 && ((kind != COP_READ && kind != COP_READ_TEMP) || amount == 0)
+           && (kind == COP_SET_WITH_TEMP ? temp_allowed((int8_t)last) : last == 0);
+}
+inline bool allowed(const Op &o) { return 1 <= o.count && o.count <= COP_COUNT_MOST && may(o.kind, o.cell, o.amount, o.last); }
 inline bool author_allowed(int a) { return 1 <= a && a <= 8; }
 
-inline bool conflict(const uint8_t *cells, const std::vector<Op> &others, const std::vector<Op> &own) {
+// Runs an operation on the cells, and gives its response.
+inline int run(const Op &o, cop_cells &cells) {
+    uint8_t &v = cells.values[o.cell];
+    int8_t &t = cells.temps[o.cell];
+    int given = response(o, v, t);
+    v = Values::after(o, v), t = (int8_t)Temps::after(o, t);
+    return given;
+}
+
+inline bool conflict(const cop_cells &cells, const std::vector<Op> &others, const std::vector<Op> &own) {
     for (int k = 0; k < 16; ++k) {
         std::vector<Op> os, ws;
         for (const Op &o : own)
@@ -38,13 +51,13 @@ inline bool conflict(const uint8_t *cells, const std::vector<Op> &others, const 
         if (ws.empty()) continue;
         for (const Op &o : others)
             if (o.cell == k) os.push_back(o);
-        if (!os.empty() && shifts(cells[k], os, ws)) return true;
+        if (!os.empty() && shifts(cells.values[k], (uint8_t)cells.temps[k], os, ws)) return true;
     }
     return false;
 }
 
 inline cop_said refused(uint32_t n) { return {COP_REFUSED, n, 0, 0}; }
-inline cop_said success(uint32_t what, uint32_t a, uint32_t b = 0) { return {what, 0, a, b}; }
+inline cop_said success(uint32_t what, uint32_t a, int32_t b = 0) { return {what, 0, a, b}; }
 
 template <class H> void chain_value(H &h, const uint8_t *before, const uint8_t *op, uint32_t seq, uint8_t author, uint8_t *out) {
     uint8_t s[45];
@@ -65,7 +78,7 @@ template <class H, bool Checked> struct Client {
     Op current;
     Bytes32 chain[33] = {};
     uint8_t statuses[32] = {}; // 0 none, 1 done, 2 aside
-    uint8_t cells[16] = {};
+    cop_cells cells = {};
 
     Client(H *hash, uint8_t n) : h(hash), number(n) {}
 
@@ -75,6 +88,8 @@ template <class H, bool Checked> struct Client {
         if (busy ? !allowed(current) : !zero(&current, sizeof current)) return false;
         for (uint32_t k = 0; k < held; ++k)
             if (statuses[k] > 2) return false;
+        for (int8_t t : cells.temps)
+            if (!temp_allowed(t)) return false;
         return zero(statuses + held, 32 - held) && zero(chain + held + 1, 32 * (32 - held));
     }
 
@@ -83,14 +98,14 @@ template <class H, bool Checked> struct Client {
         return {COP_HALTED, n, 0, 0};
     }
 
-    cop_said invoke(uint8_t kind, uint8_t cell, uint8_t amount, uint8_t *out, size_t room) {
+    cop_said invoke(uint8_t kind, uint8_t cell, uint8_t amount, uint8_t last, uint8_t *out, size_t room) {
         if (Checked && !in_range()) return refused(8);
         if (halt) return refused(3);
         if (busy) return refused(4);
-        if (!may(kind, cell, amount)) return refused(5);
+        if (!may(kind, cell, amount, last)) return refused(5);
         if (count == COP_COUNT_MOST) return refused(6);
         if (room < COP_IN) return refused(7);
-        current.count = ++count, current.kind = kind, current.cell = cell, current.amount = amount, current.last = 0;
+        current.count = ++count, current.kind = kind, current.cell = cell, current.amount = amount, current.last = last;
         busy = true;
         out[0] = 'I', out[1] = 'N', put_op(out + 2, current), out[10] = number;
         h->tag(number, out, 11, out + 11);
@@ -134,9 +149,8 @@ template <class H, bool Checked> struct Client {
         bool done = !conflict(cells, others, own);
         int given = 0;
         if (done) {
-            uint8_t copy[16];
-            memcpy(copy, cells, 16);
-            for (const Op &o : own) given = response(o, copy[o.cell]), copy[o.cell] = value(o, copy[o.cell]);
+            cop_cells copy = cells;
+            for (const Op &o : own) given = run(o, copy);
         }
         if (n > held) {
             memcpy(chain + held + 1, after + held + 1, 32 * (n - held));
@@ -163,7 +177,7 @@ template <class H, bool Checked> struct Client {
         if (held == 0) chain_value(*h, chain[0].data(), m + 2, seq, author, t);
         const uint8_t *v = held ? chain[1].data() : t;
         if (memcmp(v, m + 15, 32) != 0) return halted(23);
-        if (status == COP_DONE) cells[op.cell] = value(op, cells[op.cell]);
+        if (status == COP_DONE) run(op, cells);
         confirmed = seq;
         if (held) {
             memmove(chain, chain + 1, 32 * held);

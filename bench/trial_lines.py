@@ -16,7 +16,7 @@ def lines(load, count):
     making, takers = {"plain": (35, VANS), "flood": (60, range(1, 8))}[load]
     for _ in range(count):
         if draws.below(100) < making:
-            entry = draws.entry(1, range(16), (0, 1, 2, 3, 5, 200, 255))
+            entry = draws.entry(1, range(16), (0, 1, 2, 3, 5, 200, 255), (0,))
             yield invoke(draws.one_of(VANS), entry.kind, entry.cell, entry.amount)
         else:
             yield deliver(draws.one_of(list(takers)))

@@ -38,7 +38,8 @@ static cop_said serve(int van, const uint8_t *m, size_t n) {
 
 static cop_said invoke(int van, uint8_t kind, uint8_t cell, uint8_t amount) {
     uint8_t out[COP_IN] = {0};
-    cop_said s = cop_invoke(&replicas[van], kind, cell, amount, out, sizeof out);
+    /* the last byte: 0 in every kind but COP_SET_WITH_TEMP */
+    cop_said s = cop_invoke(&replicas[van], kind, cell, amount, 0, out, sizeof out);
     return s.what == COP_INVOKED ? serve(van, out, sizeof out) : s;
 }
 
@@ -55,9 +56,9 @@ static void show(int number, int van, cop_said s) {
     printf("%d %d ", number, van);
     switch (s.what) {
     case COP_PLACED: printf("placed %u\n", s.first); break;
-    case COP_RESPONDED: printf("answer %u %u\n", s.first, s.second); break;
+    case COP_RESPONDED: printf("answer %u %d\n", s.first, s.second); break;
     case COP_ABORTED: printf("aside %u\n", s.first); break;
-    case COP_CONFIRMED: printf("confirm %u %u\n", s.first, s.second); break;
+    case COP_CONFIRMED: printf("confirm %u %d\n", s.first, s.second); break;
     case COP_HALTED: printf("halt %u\n", s.number); break;
     default: printf("no %u\n", s.number);
     }

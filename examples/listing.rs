@@ -7,7 +7,7 @@ mod cop {
         pub what: u32,
         pub number: u32,
         pub first: u32,
-        pub second: u32,
+        pub second: i32,
     }
 
     #[repr(C)]
@@ -20,6 +20,12 @@ mod cop {
     }
 
     #[repr(C)]
+    pub struct Cells {
+        values: [u8; 16],
+        temps: [i8; 16],
+    }
+
+    #[repr(C)]
     pub struct Replica {
         number: u8,
         keys: [u8; 256],
@@ -29,7 +35,7 @@ mod cop {
         held: u32,
         chain: [u8; 1056],
         statuses: [u8; 32],
-        cells: [u8; 16],
+        cells: Cells,
         halt: u8,
     }
 
@@ -52,7 +58,7 @@ mod cop {
 
     use std::mem::size_of;
     const _: () = assert!(
-        size_of::<Replica>() == 1388 && size_of::<Server>() == 3432 && size_of::<Opened>() == 1404
+        size_of::<Replica>() == 1404 && size_of::<Server>() == 3432 && size_of::<Opened>() == 1420
     );
 
     mod c {
@@ -64,6 +70,7 @@ mod cop {
                 kind: u8,
                 cell: u8,
                 amount: u8,
+                last: u8,
                 out: *mut u8,
                 out_n: usize,
             ) -> Said;
@@ -90,8 +97,15 @@ mod cop {
     pub fn open(number: u8, keys: &[u8]) -> Opened {
         unsafe { c::cop_open(number, keys.as_ptr(), keys.len()) }
     }
-    pub fn invoke(r: &mut Replica, kind: u8, cell: u8, amount: u8, out: &mut [u8]) -> Said {
-        unsafe { c::cop_invoke(r, kind, cell, amount, out.as_mut_ptr(), out.len()) }
+    pub fn invoke(
+        r: &mut Replica,
+        kind: u8,
+        cell: u8,
+        amount: u8,
+        last: u8,
+        out: &mut [u8],
+    ) -> Said {
+        unsafe { c::cop_invoke(r, kind, cell, amount, last, out.as_mut_ptr(), out.len()) }
     }
     pub fn receive(r: &mut Replica, m: &[u8], out: &mut [u8]) -> Said {
         unsafe { c::cop_receive(r, m.as_ptr(), m.len(), out.as_mut_ptr(), out.len()) }
@@ -141,7 +155,8 @@ impl World {
 
     fn invoke(&mut self, van: usize, kind: u8, cell: u8, amount: u8) -> Said {
         let mut out = [0u8; 43];
-        let s = cop::invoke(&mut self.vans[van - 1], kind, cell, amount, &mut out);
+        // the last byte: 0 in every kind but 5
+        let s = cop::invoke(&mut self.vans[van - 1], kind, cell, amount, 0, &mut out);
         if s.what == INVOKED {
             self.serve(van, &out)
         } else {

@@ -23,7 +23,11 @@
    changes nothing), and take no message twice (a client halts at one). Never open a client number anew, and never go on from a
    backup or a copy: what a lost or doubled laptop might still have sent would then be sent again with other contents. Where
    the record is lost, that number is out of use. The server's state is kept in the same way, with the lines to the clients.
-   Padding in a struct is not part of the state: compare fields, not bytes.
+   Padding in a struct is not part of the state: compare fields, not bytes. A cop_replica of the library without temperatures has
+   1,388 bytes; with sixteen zero bytes put in after its first 1,384 it is one of this library.
+
+   Temperatures. A library without kinds 5 and 6 halts with 21 at an operation of either kind, and its server refuses one with 30: bring
+   this one to all clients and the server before the first is invoked.
 
    Keys. Each client has a key of 32 bytes and every client holds all eight, client 1's first: the same 256 bytes in each,
    from a good source of random bytes, and on no other machine; the server has none. They stand unhidden in cop_replica, so that a
@@ -57,12 +61,23 @@ enum {
     COP_PENDING_MOST = 32   /* sequence numbers that wait at the server; those held past the last confirmed one at a client */
 };
 
-/* kinds of operations */
-enum { COP_ADD = 1, COP_TAKE = 2, COP_READ = 3, COP_SET = 4 };
+/* kinds of operations; the last two are about the cell's temperature */
+enum {
+    COP_ADD = 1,
+    COP_TAKE = 2,
+    COP_READ = 3,          /* amount 0 */
+    COP_SET = 4,
+    COP_SET_WITH_TEMP = 5, /* sets the cell to the amount, and its temperature to the operation's last byte */
+    COP_READ_TEMP = 6      /* amount 0 */
+};
 
-/* responses: 1 of a set and of an add or take that succeeds, the cell of a read (0 to 255), and COP_FAILED plus what the cell
-   holds of an add or take that fails and changes nothing */
-enum { COP_FAILED = 256, COP_RESPONSE_MOST = 511 };
+/* temperatures; in an operation's last byte and in a replica they are in two's complement */
+enum { COP_TEMP_LEAST = -40, COP_TEMP_MOST = 85 };
+
+/* responses, from COP_RESPONSE_LEAST to COP_RESPONSE_MOST: 1 of a set of either kind and of an add or take that succeeds, the cell of
+   a read (0 to 255), the cell's temperature of a COP_READ_TEMP, and COP_FAILED plus what the cell holds of an add or take that fails
+   and changes nothing. A negative one is always a temperature; cop_said.second has it as it is, a signed number. */
+enum { COP_FAILED = 256, COP_RESPONSE_LEAST = -40, COP_RESPONSE_MOST = 511 };
 
 /* statuses, as a confirmation brings them */
 enum { COP_ASIDE = 0, COP_DONE = 1 };
@@ -73,7 +88,7 @@ enum {
     COP_HALTED = 1,    /* the number says why */
     COP_OPENED = 2,
     COP_INVOKED = 3,   /* own count; COP_IN bytes written */
-    COP_RESPONDED = 4, /* sequence number, response; COP_CO bytes written */
+    COP_RESPONDED = 4, /* sequence number, response (may be negative); COP_CO bytes written */
     COP_ABORTED = 5,   /* sequence number; COP_CO bytes written */
     COP_CONFIRMED = 6, /* sequence number, status; nothing written */
     COP_PLACED = 7,    /* sequence number; a RE for that client written */
@@ -86,7 +101,7 @@ enum {
     COP_REFUSED_KEYS = 2,      /* not 256 key bytes */
     COP_REFUSED_HALT_MARK = 3, /* the client has halted */
     COP_REFUSED_CURRENT = 4,   /* an operation is under way */
-    COP_REFUSED_FORBIDDEN = 5, /* kind, cell or amount not allowed */
+    COP_REFUSED_FORBIDDEN = 5, /* kind, cell, amount or last byte not allowed */
     COP_REFUSED_COUNT = 6,     /* own count at 1,000,000 */
     COP_REFUSED_ROOM = 7,      /* buffer too short */
     COP_REFUSED_RANGE = 8,     /* a field of the state out of range */
@@ -107,13 +122,21 @@ enum {
 };
 
 typedef struct {
-    uint32_t what, number, first, second;
+    uint32_t what, number, first;
+    int32_t second;
 } cop_said;
 
 typedef struct {
     uint32_t count;
-    uint8_t kind, cell, amount, last;
+    uint8_t kind, cell, amount;
+    uint8_t last; /* a temperature in COP_SET_WITH_TEMP: (int8_t)last; 0 in every other kind */
 } cop_operation;
+
+/* what the cells hold, and their temperatures: crates/operation, struct Cells */
+typedef struct {
+    uint8_t values[16];
+    int8_t temps[16];
+} cop_cells;
 
 /* a client's state: crates/replica, struct Replica */
 typedef struct {
@@ -125,7 +148,7 @@ typedef struct {
     uint32_t held;
     uint8_t chain[1056];
     uint8_t statuses[32];
-    uint8_t cells[16];
+    cop_cells cells;
     uint8_t halt;
 } cop_replica;
 
@@ -148,8 +171,9 @@ typedef struct {
 /* Opens a client: COP_OPENED, 1 or 2. */
 cop_opened cop_open(uint8_t number, const uint8_t *keys, size_t keys_n);
 
-/* Invokes an operation; its IN goes to the front of out, of COP_IN bytes or more. COP_INVOKED, or 8, 3, 4, 5, 6, 7. */
-cop_said cop_invoke(cop_replica *r, uint8_t kind, uint8_t cell, uint8_t amount, uint8_t *out, size_t out_n);
+/* Invokes an operation; its IN goes to the front of out, of COP_IN bytes or more. `last` is (uint8_t)temperature for COP_SET_WITH_TEMP,
+   0 for every other kind. COP_INVOKED, or 8, 3, 4, 5, 6, 7. */
+cop_said cop_invoke(cop_replica *r, uint8_t kind, uint8_t cell, uint8_t amount, uint8_t last, uint8_t *out, size_t out_n);
 
 /* Takes a message from the server. A RE: its CO goes to the front of out, of COP_CO bytes or more; COP_RESPONDED, COP_ABORTED, or 8, 3,
    20, 7, 21 to 24. A BR: out may have length 0; COP_CONFIRMED, or 8, 3, 20, 21, 25, 22, 23. */
@@ -179,10 +203,11 @@ COP_LAYOUT(sizeof(cop_said) == 16 && offsetof(cop_said, second) == 12 && sizeof(
            && offsetof(cop_operation, last) == 7 && offsetof(cop_replica, keys) == 1 && offsetof(cop_replica, count) == 260
            && offsetof(cop_replica, current) == 264 && offsetof(cop_replica, confirmed) == 272 && offsetof(cop_replica, held) == 276
            && offsetof(cop_replica, chain) == 280 && offsetof(cop_replica, statuses) == 1336 && offsetof(cop_replica, cells) == 1368
-           && offsetof(cop_replica, halt) == 1384 && sizeof(cop_replica) == 1388 && offsetof(cop_server, passed) == 4
+           && offsetof(cop_cells, temps) == 16 && sizeof(cop_cells) == 32 && offsetof(cop_replica, halt) == 1400
+           && sizeof(cop_replica) == 1404 && offsetof(cop_server, passed) == 4
            && offsetof(cop_server, counts) == 8 && offsetof(cop_server, items) == 40 && offsetof(cop_server, statuses) == 1352
            && offsetof(cop_server, digests) == 1384 && offsetof(cop_server, tags) == 2408 && sizeof(cop_server) == 3432
-           && offsetof(cop_opened, said) == 1388 && sizeof(cop_opened) == 1404);
+           && offsetof(cop_opened, said) == 1404 && sizeof(cop_opened) == 1420);
 #undef COP_LAYOUT
 
 #ifdef __cplusplus

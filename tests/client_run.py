@@ -2,23 +2,24 @@
 
 The program keeps four books, in slots 0 to 3, all zero at first. Its input has at most 1,048,576 bytes, a line a call:
 
-    # TEXT                                   a note: printed as it is
-    open TO VAN KEYS                         opens a book, which goes to slot TO
-    invoke FROM TO KIND CELL AMOUNT ROOM     makes an entry
-    receive FROM TO ROOM MESSAGE             takes a message
-    change FROM TO AT BYTES FIELD            sets bytes of a book, from AT on; FIELD, for the reader, is their field and index
+    # TEXT                                     a note: printed as it is
+    open TO VAN KEYS                           opens a book, which goes to slot TO
+    invoke FROM TO KIND CELL AMOUNT LAST ROOM  makes an entry
+    receive FROM TO ROOM MESSAGE               takes a message
+    change FROM TO AT BYTES FIELD              sets bytes of a book, from AT on; FIELD, for the reader, is their field and index
 
 A call gets the book in slot FROM, and the book afterwards goes to slot TO. KEYS, MESSAGE (both at most 4,096 bytes) and BYTES
 are in hexadecimal, `-` for no bytes; other numbers are decimal.
 
 Each call gives one line: the outcome's word and numbers (for a change, the word alone), and the first eight bytes of the
 SHA-256 digest of the whole book; for an invoke and a receive also those of the out buffer. That has 128 bytes of value
-0xaa, of which the first ROOM are lent. A book has 1,382 bytes: each field in the order of LAYOUT, numbers in four bytes.
+0xaa, of which the first ROOM are lent. A negative answer is `-` and its digits. A book has 1,398 bytes: each field in the
+order of LAYOUT, numbers in four bytes, temperatures in one, two's complement.
 """
 
 import cop
 from call_lines import Layout, bytes_of
-from cop import ASIDE, DONE, Book
+from cop import ASIDE, DONE, Book, Cells
 
 # Field, number of bytes of an element, number of elements.
 LAYOUT = Layout(
@@ -36,6 +37,7 @@ LAYOUT = Layout(
         ("chain", 1, 33 * 32),
         ("statuses", 1, 32),
         ("cells", 1, 16),
+        ("temperatures", 1, 16),
         ("halt", 1, 1),
     ),
     room=128,
@@ -56,7 +58,8 @@ def image(book):
             cop.number(book.held()),
             b"".join(book.chain).ljust(33 * 32, b"\0"),
             bytes(STATUS_BYTE[status] for status in book.statuses).ljust(32, b"\0"),
-            bytes(book.cells),
+            bytes(book.cells.values),
+            bytes(map(cop.last_byte, book.cells.temperatures)),
             bytes([book.halt]),
         )
     )
@@ -83,7 +86,7 @@ def book_of(data):
         c=int.from_bytes(part("c", 4), "big"),
         chain=tuple(chain[32 * k : 32 * k + 32] for k in range(held + 1)),
         statuses=tuple((None, DONE, ASIDE)[status] for status in statuses[:held]),
-        cells=tuple(part("cells", 16)),
+        cells=Cells(tuple(part("cells", 16)), tuple(map(cop.signed, part("temperatures", 16)))),
         halt=data[-1],
     )
     return book if image(book) == data else None
@@ -107,8 +110,8 @@ def run(slots, words):
         book, outcome = cop.open_book(int(van), bytes_of(keys))
         data = image(book)
     elif words[0] == "invoke":
-        slot, to, kind, cell, amount, room = map(int, words[1:])
-        data, outcome, out = call(slots[slot], room, lambda book, out: cop.make(book, kind, cell, amount, out))
+        slot, to, *made, room = map(int, words[1:])
+        data, outcome, out = call(slots[slot], room, lambda book, out: cop.make(book, *made, out))
     elif words[0] == "receive":
         slot, to, room, message = words[1:]
         data, outcome, out = call(slots[int(slot)], int(room), lambda book, out: cop.take(book, bytes_of(message), out))

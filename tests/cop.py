@@ -1,4 +1,4 @@
-"""Document 01's van and relay, with the answers of document 02's Q-1, in plain Python, written from their text alone.
+"""Document 01's van and relay, with document 02's Q-1 and Q-2, in plain Python, written from their text alone.
 
 A second implementation to hold the proved one against: slow, with nothing shared. It keeps document
 01's words (docs/GLOSSARY.md gives the terms of the field), so that it can be read beside the text.
@@ -13,7 +13,8 @@ from typing import NamedTuple, Optional
 LIMIT = 1_000_000  # the highest own count and the highest place
 WAITING = 32  # "waiting entries never exceed 32"
 CELLS = 16
-ADD, TAKE, READ, SET = 1, 2, 3, 4
+ADD, TAKE, READ, SET, SET_WITH_TEMP, READ_TEMP = 1, 2, 3, 4, 5, 6
+COLDEST, WARMEST = -40, 85  # temperatures
 DONE, ASIDE = 1, 0
 
 
@@ -21,7 +22,8 @@ DONE, ASIDE = 1, 0
 
 
 class Entry(NamedTuple):
-    """ "An entry is 8 bytes: the van's own count, kind, cell, amount, and a zero byte." """
+    """ "An entry is 8 bytes: the van's own count, kind, cell, amount, and a zero byte", the last one a temperature in
+    kind 5 (document 02, Q-2)."""
 
     count: int
     kind: int
@@ -42,17 +44,41 @@ def entry_of(eight):
     return Entry(int.from_bytes(eight[:4], "big"), *eight[4:])
 
 
-def kind_cell_amount_allowed(kind, cell, amount):
-    return 1 <= kind <= 4 and 0 <= cell <= 15 and 0 <= amount <= 255 and (kind != READ or amount == 0)
+def signed(byte):
+    """ "a two's complement number" """
+    return byte - 256 if byte >= 128 else byte
+
+
+def last_byte(temperature):
+    """The byte of a number from -128 to 127."""
+    return temperature % 256
+
+
+def temperature_allowed(temperature):
+    """ "from -40 to 85" """
+    return COLDEST <= temperature <= WARMEST
+
+
+def in_table(kind, cell, amount, last):
+    """Whether the table has it: a read has amount 0, and "Kind 6 has amount 0"; "The last byte remains zero for every
+    other kind" than 5."""
+    return (
+        1 <= kind <= 6
+        and 0 <= cell <= 15
+        and 0 <= amount <= 255
+        and (kind not in (READ, READ_TEMP) or amount == 0)
+        and (temperature_allowed(signed(last)) if kind == SET_WITH_TEMP else last == 0)
+    )
+
+
+def warm(cell, amount, temperature):
+    """Kind, cell, amount and last byte of a kind 5."""
+    return SET_WITH_TEMP, cell, amount, last_byte(temperature)
 
 
 def allowed(entry):
     """ "An entry is allowed if it meets all of this and the table." """
-    return (
-        1 <= entry.count <= LIMIT
-        and kind_cell_amount_allowed(entry.kind, entry.cell, entry.amount)
-        and entry.last == 0
-    )
+    return 1 <= entry.count <= LIMIT and in_table(entry.kind, entry.cell, entry.amount, entry.last)
 
 
 def author_allowed(author):
@@ -63,22 +89,41 @@ def status_allowed(status):
     return status in (DONE, ASIDE)
 
 
-def run_on_value(entry, value):
-    """The table: what an entry answers at a cell's value, and the value after it. "A failed add or take answers
-    256 plus the cell's value." (document 02, Q-1)"""
+class Cells(NamedTuple):
+    """ "16 cells, each 0 to 255, all 0 at the start" and "sixteen temperatures, 0 at the start". """
+
+    values: tuple = (0,) * CELLS
+    temperatures: tuple = (0,) * CELLS
+
+    def at(self, cell):
+        return self.values[cell], self.temperatures[cell]
+
+    def put(self, cell, held):
+        return Cells(*(kept[:cell] + (new,) + kept[cell + 1 :] for kept, new in zip(self, held)))
+
+
+def run_on_cell(entry, held):
+    """The table: what an entry answers where the cell holds a value and has a temperature, and both after it. "A failed
+    add or take answers 256 plus the cell's value." (document 02, Q-1) "Kind 5 sets the cell to the amount and sets the
+    cell's temperature from the entry's last byte", kind 6 "answers the temperature, negative ones included" (Q-2)."""
+    value, temperature = held
     if entry.kind == ADD:
-        return (1, value + entry.amount) if value + entry.amount <= 255 else (256 + value, value)
+        return (1, (value + entry.amount, temperature)) if value + entry.amount <= 255 else (256 + value, held)
     if entry.kind == TAKE:
-        return (1, value - entry.amount) if value >= entry.amount else (256 + value, value)
+        return (1, (value - entry.amount, temperature)) if value >= entry.amount else (256 + value, held)
     if entry.kind == READ:
-        return value, value
-    assert entry.kind == SET
-    return 1, entry.amount
+        return value, held
+    if entry.kind == SET:
+        return 1, (entry.amount, temperature)
+    if entry.kind == SET_WITH_TEMP:
+        return 1, (entry.amount, signed(entry.last))
+    assert entry.kind == READ_TEMP
+    return temperature, held
 
 
 def run(entry, cells):
-    answer, value = run_on_value(entry, cells[entry.cell])
-    return answer, cells[: entry.cell] + (value,) + cells[entry.cell + 1 :]
+    answer, held = run_on_cell(entry, cells.at(entry.cell))
+    return answer, cells.put(entry.cell, held)
 
 
 def answers(entries, cells):
@@ -130,23 +175,23 @@ def conflict_by_definition(others, own, cells):
     )
 
 
-def conflict_on_cell(others, own, value):
-    """The same on one cell, by a search over (others gone by, own run, value). `own` has each own entry
-    with its answer alone."""
+def conflict_on_cell(others, own, held):
+    """The same on one cell, by a search over (others gone by, own run, what the cell holds with its temperature). `own`
+    has each own entry with its answer alone."""
     seen = set()
-    to_do = [(0, 0, value)]
+    to_do = [(0, 0, held)]
     while to_do:
         state = to_do.pop()
         if state in seen:
             continue
         seen.add(state)
-        i, j, value = state
+        i, j, held = state
         if i < len(others):
-            to_do.append((i + 1, j, value))  # left out
-            to_do.append((i + 1, j, run_on_value(others[i], value)[1]))  # run
+            to_do.append((i + 1, j, held))  # left out
+            to_do.append((i + 1, j, run_on_cell(others[i], held)[1]))  # run
         if j < len(own):
             entry, alone = own[j]
-            answer, after = run_on_value(entry, value)
+            answer, after = run_on_cell(entry, held)
             if answer != alone:
                 return True
             to_do.append((i, j + 1, after))
@@ -154,14 +199,14 @@ def conflict_on_cell(others, own, value):
 
 
 def conflict(others, own, cells):
-    """conflict_by_definition for long lists too. An entry reads and changes its own cell only, so an own
-    answer can differ exactly if it can with the entries of its cell alone."""
+    """conflict_by_definition for long lists too. An entry reads and changes its own cell and its temperature only, so an
+    own answer can differ exactly if it can with the entries of its cell alone."""
     alone = answers(own, cells)
     return any(
         conflict_on_cell(
             [entry for entry in others if entry.cell == cell],
             [(entry, answer) for entry, answer in zip(own, alone) if entry.cell == cell],
-            cells[cell],
+            cells.at(cell),
         )
         for cell in range(CELLS)
     )
@@ -269,7 +314,7 @@ class Book:
     c: int = 0
     chain: tuple = (ZERO,)  # the value at c, then those held past it
     statuses: tuple = ()  # 1, 0 or None for each place held
-    cells: tuple = (0,) * CELLS
+    cells: Cells = Cells()
     halt: int = 0
 
     def held(self):
@@ -291,7 +336,8 @@ def book_in_range(book):
         and book.c + book.held() <= LIMIT
         and (book.hand is None or allowed(book.hand))
         and all(status in (1, 0, None) for status in book.statuses)
-        and all(0 <= value <= 255 for value in book.cells)
+        and all(0 <= value <= 255 for value in book.cells.values)
+        and all(map(temperature_allowed, book.cells.temperatures))
         and (book.halt == 0 or 20 <= book.halt <= 25)
     )
 
@@ -324,18 +370,18 @@ def open_book(van, keys):
     return Book(number=van, keys=keys), ("opened",)
 
 
-def make(book, kind, cell, amount, out):
-    """Making an entry: the book, the outcome and the out bytes afterwards."""
+def make(book, kind, cell, amount, last, out):
+    """Making an entry ("Making takes the last byte too"): the book, the outcome and the out bytes afterwards."""
     why = first_questions(book) or first_no(
         (book.hand is None, 4),
-        (kind_cell_amount_allowed(kind, cell, amount), 5),
+        (in_table(kind, cell, amount, last), 5),
         (book.count < LIMIT, 6),
         (len(out) >= 43, 7),
     )
     if why:
         return book, no(why), out
     count = book.count + 1
-    entry = Entry(count, kind, cell, amount)
+    entry = Entry(count, kind, cell, amount, last)
     message = in_message(book.keys, entry, book.number)
     return replace(book, count=count, hand=entry), ("made", count), lend(out, message)
 

@@ -21,7 +21,7 @@ RUNS = {"honest": honest, "hostile": hostile, "with keys": with_keys, "states": 
 KINDS = tuple(RUNS)
 ORDER = (0, 1, 3, 2, 1, 3, 0, 1)  # kinds of run, over and over
 NUMBERS = (*range(1, 10), *range(20, 26), *range(30, 37))
-SUCCESSES = ("opened", "made", "answer", "failed", "aside", "confirm", "fresh", "placed", "passed", "digest", "tag")
+SUCCESSES = ("opened", "made", "answer", "failed", "negative", "aside", "confirm", "fresh", "placed", "passed", "digest", "tag")
 
 
 def one_run(task):

@@ -5,7 +5,7 @@ from collections import deque
 
 import cop
 from cop import DONE
-from draws import Draws
+from draws import TEMPERATURES, Draws
 
 VANS = range(1, 9)
 
@@ -49,6 +49,7 @@ class Run:
         self.halts = 0
         self.cells = draws.one_of(((0,), (3,), (0, 15), (1, 2, 3, 4), tuple(range(16))))
         self.amounts = draws.one_of(((0, 1, 2), (0, 1, 5, 40), (100, 128, 255), tuple(range(256))))
+        self.temperatures = draws.one_of(((0,), (-1, 0), TEMPERATURES, tuple(range(-40, 86))))
 
     # Calls
 
@@ -59,14 +60,19 @@ class Run:
             return d.below(enough)
         return enough + d.one_of((0, 0, 1, 7, 100))
 
+    def entry(self, count=1):
+        return self.draws.entry(count, self.cells, self.amounts, self.temperatures)
+
     def make(self, v):
         """Van v makes a drawn entry, at times one that is not allowed."""
         d = self.draws
-        if d.chance(25):
-            kind, cell, amount = d.below(256), d.below(256), d.below(256)
+        if d.chance(40):
+            made = tuple(d.bytes(4))
+        elif d.chance(20):
+            made = d.spoiled(self.entry())[1:]
         else:
-            _, kind, cell, amount, _ = d.entry(1, self.cells, self.amounts)
-        outcome, out = self.library.invoke(self.vans[v], kind, cell, amount, self.room(43))
+            made = self.entry()[1:]
+        outcome, out = self.library.invoke(self.vans[v], *made, self.room(43))
         if outcome[0] != "made":
             return None
         self.tagged.add((v, out[:11]))
@@ -121,8 +127,8 @@ class Run:
         return common
 
     def check_running(self, v):
-        """The cells are what running gives, and each author got what is due, and nothing else."""
-        cells = (0,) * cop.CELLS
+        """The cells, with their temperatures, are what running gives, and each author got what is due, and nothing else."""
+        cells = cop.Cells()
         for (entry, author, place, status), after in self.confirmed[v]:
             due = ("aside", place)
             if status == DONE:

@@ -2,10 +2,12 @@
 with a history that drawn messages fit."""
 
 import cop
-from cop import LIMIT, Book, Entry, Item, Relay
+from cop import LIMIT, Book, Cells, Entry, Item, Relay
+from draws import LAST_BYTES
 from linked import REPLICA, SERVER, State, book_of, relay_of, replica_fields, server_fields
 
 NEAR = (0, 1, 5, LIMIT - 40, LIMIT - 2, LIMIT - 1, LIMIT)
+NEAR_DEGREES = ((20,), (-1, 0), (-40, 85), tuple(range(-40, 86)))
 
 
 def drawn_count(d, most=LIMIT):
@@ -13,7 +15,15 @@ def drawn_count(d, most=LIMIT):
 
 
 def drawn_entry(d, cells, amounts):
-    return d.entry(1 + d.below(d.one_of((3, LIMIT))), cells, amounts)
+    return d.entry(1 + d.below(d.one_of((3, LIMIT))), cells, amounts, d.one_of(NEAR_DEGREES))
+
+
+def drawn_made(d):
+    """Kind, cell, amount and last byte to make an entry of: drawn bytes, one that is allowed, or one about the ends."""
+    if d.chance(5):
+        return tuple(d.bytes(4))
+    entry = d.entry(1, range(16), range(256), range(-40, 86))
+    return (d.spoiled(entry) if d.chance(4) else entry)[1:]
 
 
 def drawn_item(d, keys, cells, amounts, author=None):
@@ -48,6 +58,7 @@ class BookCase:
             held = at + 1
         elif hand:
             self.items.append(Item(hand, self.van, cop.in_tag(self.keys, hand, self.van)))
+        degrees = d.one_of(NEAR_DEGREES)
         self.book = Book(
             number=self.van,
             keys=self.keys,
@@ -56,7 +67,7 @@ class BookCase:
             c=c,
             chain=tuple(chain[: held + 1]),
             statuses=tuple(d.one_of((1, 1, 0, None)) for _ in range(held)),
-            cells=tuple(d.below(256) for _ in range(16)),
+            cells=Cells(tuple(d.below(256) for _ in range(16)), tuple(d.one_of(degrees) for _ in range(16))),
             halt=d.one_of((20, 21, 22, 23, 24, 25)) if d.chance(15) else 0,
         )
 
@@ -94,16 +105,16 @@ def garbage(d, layout, fields):
         at = d.below(layout.size)
         data[at] = d.below(256)
     elif layout is REPLICA and what <= 2:
-        numbers = (0, 260, 263, 264, 267, 268, 269, 270, 271, 272, 275, 276, 279, 1384)
-        at = d.one_of((*numbers, 280 + d.below(1056), 1336 + d.below(32)))
-        data[at] = d.one_of((0, 1, 2, 3, 8, 9, 16, 19, 26, 32, 33, 255))
+        numbers = (0, 260, 263, 264, 267, 268, 269, 270, 271, 271, 272, 275, 276, 279, 1400)
+        at = d.one_of((*numbers, 280 + d.below(1056), 1336 + d.below(32), *(1384 + d.below(16) for _ in range(3))))
+        data[at] = d.one_of((0, 1, 2, 3, 5, 6, 7, 8, 9, 16, 19, 26, 32, 33, 255, *LAST_BYTES))
     elif layout is SERVER and what <= 2:
         slot = d.below(32)
         numbers = (0, 3, 4, 7, 8 + d.below(32), 40 + 41 * slot + d.below(9), 1352 + slot)
         at = d.one_of((*numbers, 1384 + d.below(1024), 2408 + d.below(1024)))
-        data[at] = d.one_of((0, 1, 2, 3, 8, 9, 16, 32, 33, 255))
+        data[at] = d.one_of((0, 1, 2, 3, 5, 6, 7, 8, 9, 16, 32, 33, 255, *LAST_BYTES))
     if layout is REPLICA:
-        data[257:260], data[1385:1388] = d.bytes(3), d.bytes(3)
+        data[257:260], data[1401:1404] = d.bytes(3), d.bytes(3)
     return bytes(data)
 
 
@@ -113,8 +124,7 @@ def client_call(library, d):
     state = State(REPLICA, data, book_of(REPLICA.unpack(data)))
     for _ in range(3):
         if d.chance(3):
-            made = tuple(d.bytes(3)) if d.chance(4) else d.entry(1, range(16), range(256))[1:4]
-            library.invoke(state, *made, d.one_of((43, 44, 100, d.below(43))))
+            library.invoke(state, *drawn_made(d), d.one_of((43, 44, 100, d.below(43))))
         else:
             library.receive(state, case.message(), d.one_of((80, 80, 81, 200, d.below(80))))
 
@@ -140,7 +150,7 @@ def server_call(library, d):
             author = items[k].author
             m = cop.co_message(keys, items[k].entry, author, place, d.bytes(32), d.below(2))
         else:
-            entry = Entry(relay.last[author - 1] + 1 + d.one_of((0, 0, 0, 1)), *d.entry(1, all_cells, amounts)[1:4])
+            entry = Entry(relay.last[author - 1] + 1 + d.one_of((0, 0, 0, 1)), *drawn_made(d))
             m = cop.in_message(keys, entry, author)
         line = author if d.below(10) else d.below(256)
         room = d.one_of((2560, 2560, 2561, 3 + 41 * (waiting + 1), 80, d.below(2560)))

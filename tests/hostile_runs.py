@@ -139,11 +139,16 @@ class Hostile:
         items = items[:33]
         return b"RE" + bytes([len(items)]) + b"".join(items)
 
+    def forged_entry(self):
+        """Mostly one that is allowed."""
+        entry = self.run.entry(1 + self.d.below(9))
+        return self.d.spoiled(entry) if self.d.chance(10) else entry
+
     def forged(self, v):
         """With the keys: a `BR` or a `RE` with right tags over what no van wrote."""
         d, book, keys = self.d, self.run.vans[v].model, self.run.keys
         if d.chance(2):
-            entry, author = d.entry(1 + d.below(9), self.run.cells, self.run.amounts), 1 + d.below(8)
+            entry, author = self.forged_entry(), 1 + d.below(8)
             place = book.c + 1
             value = book.chain[1] if book.held() else cop.chain_value(book.chain[0], entry, place, author)
             if d.chance(10):
@@ -151,7 +156,7 @@ class Hostile:
             return cop.br_message(cop.co_message(keys, entry, author, place, value, d.below(2)))
         items = []
         for _ in range(d.below(4)):
-            entry, author = d.entry(1 + d.below(9), self.run.cells, self.run.amounts), 1 + d.below(8)
+            entry, author = self.forged_entry(), 1 + d.below(8)
             items.append(cop.Item(entry, author, cop.in_tag(keys, entry, author)))
         if book.hand:
             items.append(cop.Item(book.hand, v, cop.in_tag(keys, book.hand, v)))

@@ -9,9 +9,9 @@ import mmap
 import struct
 
 import cop
-from cop import ASIDE, DONE, Book, Relay
+from cop import ASIDE, DONE, Book, Cells, Relay
 
-REPLICA = struct.Struct("<B256s3xI I4B II 1056s32s16sB3x")
+REPLICA = struct.Struct("<B256s3xI I4B II 1056s32s16s16sB3x")
 SERVER = struct.Struct("<II8I1312s32s1024s1024s")
 STATUS_BYTE = {None: 0, DONE: 1, ASIDE: 2}
 STATUS = (None, DONE, ASIDE)
@@ -32,13 +32,14 @@ def replica_fields(book):
     chain = b"".join(book.chain).ljust(1056, b"\0")
     statuses = bytes([STATUS_BYTE[s] for s in book.statuses]).ljust(32, b"\0")
     held = len(book.statuses)
-    return (book.number, book.keys, book.count, *hand, book.c, held, chain, statuses, bytes(book.cells), book.halt)
+    cells = bytes(book.cells.values), bytes(map(cop.last_byte, book.cells.temperatures))
+    return (book.number, book.keys, book.count, *hand, book.c, held, chain, statuses, *cells, book.halt)
 
 
 def book_of(fields):
     """The book with these fields, or None where none has them: an unused slot that is not zero, a status that is
     none of the three, more than 32 places. That is part of question 8."""
-    number, keys, count, *hand, c, held, chain, statuses, cells, halt = fields
+    number, keys, count, *hand, c, held, chain, statuses, values, temperatures, halt = fields
     if held > 32 or max(statuses) > 2:
         return None
     book = Book(
@@ -49,7 +50,7 @@ def book_of(fields):
         c=c,
         chain=tuple(chain[32 * k : 32 * k + 32] for k in range(held + 1)),
         statuses=tuple(STATUS[s] for s in statuses[:held]),
-        cells=tuple(cells),
+        cells=Cells(tuple(values), tuple(map(cop.signed, temperatures))),
         halt=halt,
     )
     return book if replica_fields(book) == fields else None
@@ -88,7 +89,7 @@ def relay_of(fields):
 
 
 class Said(ctypes.Structure):
-    _fields_ = [(name, ctypes.c_uint32) for name in ("what", "number", "first", "second")]
+    _fields_ = [(name, ctypes.c_uint32) for name in ("what", "number", "first")] + [("second", ctypes.c_int32)]
 
 
 class Opened(ctypes.Structure):
@@ -147,14 +148,15 @@ class State:
 
 
 class Library:
-    """Calls on both. `seen` counts the outcomes (`failed`: the answer of an add or take that failed), `calls` the calls."""
+    """Calls on both. `seen` counts the outcomes (`failed`: the answer of an add or take that failed; `negative`: one of a kind 6),
+    `calls` the calls."""
 
     def __init__(self, path):
         lib = self.lib = ctypes.CDLL(path)
         size, pointer, byte = ctypes.c_size_t, ctypes.c_void_p, ctypes.c_uint8
         for name, result, arguments in (
             ("cop_open", Opened, [byte, pointer, size]),
-            ("cop_invoke", Said, [pointer, byte, byte, byte, pointer, size]),
+            ("cop_invoke", Said, [pointer, byte, byte, byte, byte, pointer, size]),
             ("cop_receive", Said, [pointer, pointer, size, pointer, size]),
             ("cop_fresh_server", Fresh, []),
             ("cop_serve", Said, [pointer, byte, pointer, size, pointer, size]),
@@ -171,7 +173,9 @@ class Library:
 
     def count(self, call, outcome):
         self.calls += 1
-        word = "failed" if outcome[0] == "answer" and outcome[2] >= 256 else outcome[0]
+        word = outcome[0]
+        if word == "answer" and not 0 <= outcome[2] <= 255:
+            word = "negative" if outcome[2] < 0 else "failed"
         what = (call, word, outcome[1] if word in ("no", "halt") else 0)
         self.seen[what] = self.seen.get(what, 0) + 1
 
@@ -220,11 +224,11 @@ class Library:
         self.count(call, outcome)
         return outcome, out
 
-    def invoke(self, state, kind, cell, amount, room):
+    def invoke(self, state, kind, cell, amount, last, room):
         def step(book, out):
-            return cop.make(book, kind, cell, amount, out)
+            return cop.make(book, kind, cell, amount, last, out)
 
-        return self.both("invoke", state, replica_fields, step, room, b"", kind, cell, amount)
+        return self.both("invoke", state, replica_fields, step, room, b"", kind, cell, amount, last)
 
     def receive(self, state, message, room):
         def step(book, out):

@@ -9,8 +9,8 @@ import call_lines
 import cop
 from call_lines import hexadecimal
 from client_run import LAYOUT, book_of, call, image
-from cop import ADD, ASIDE, DONE, READ, SET, TAKE, Entry
-from draws import Draws
+from cop import ADD, ASIDE, DONE, READ, READ_TEMP, SET, SET_WITH_TEMP, TAKE, Entry, last_byte, warm
+from draws import LAST_BYTES, Draws
 
 
 class Script:
@@ -49,10 +49,10 @@ class Script:
         self.told(to, data, outcome, out)
         return outcome, out
 
-    def make(self, slot, kind, cell, amount, room=43, to=None):
+    def make(self, slot, kind, cell, amount, last=0, room=43, to=None):
         to = slot if to is None else to
-        self.asked("invoke", slot, to, kind, cell, amount, room)
-        return self.call(slot, to, room, lambda book, out: cop.make(book, kind, cell, amount, out))
+        self.asked("invoke", slot, to, kind, cell, amount, last, room)
+        return self.call(slot, to, room, lambda book, out: cop.make(book, kind, cell, amount, last, out))
 
     def take(self, slot, message, room=80, to=None):
         assert len(message) <= 4096
@@ -100,8 +100,8 @@ class World:
                 self.put(other, out[80 * k : 80 * k + 80])
         return outcome
 
-    def make(self, van, kind, cell, amount, room=43):
-        outcome, out = self.script.make(van - 1, kind, cell, amount, room)
+    def make(self, van, kind, cell, amount, last=0):
+        outcome, out = self.script.make(van - 1, kind, cell, amount, last)
         if outcome[0] == "made":
             assert self.offer(van, out[:43])[0] == "placed"
         return outcome
@@ -135,6 +135,14 @@ def chain_from(book, items):
 
 def br(entry, author, place, value, status=DONE, keys=KEYS):
     return cop.br_message(cop.co_message(keys, entry, author, place, value, status))
+
+
+def not_in_table(count):
+    """Entries that the table does not have: by kind, cell, amount, last byte."""
+    made = [(0, 0, 1), (7, 0, 1), (7, 0, 0), (255, 0, 1), (ADD, 16, 1), (SET_WITH_TEMP, 16, 1), (READ_TEMP, 16, 0), (READ, 0, 1), (READ_TEMP, 0, 1)]
+    made += [(kind, 0, 0, last) for kind in (ADD, TAKE, READ, SET, READ_TEMP) for last in (1, 85, 255)]
+    made += [warm(0, 1, temperature) for temperature in (86, 127, -128, -41)]
+    return [Entry(count, *m) for m in made]
 
 
 def changed(message, at, mask):
@@ -199,14 +207,16 @@ def every_kind(s):
     w.deliver_all()
 
 
-def last_outcome(s, value, others, own):
-    """Van 1 makes the own entries one after the other, with the others' of van 2 before them, where cell 0 holds the value."""
+def last_outcome(s, value, others, own, temperature=None):
+    """Van 1 makes the own entries one after the other, with the others' of van 2 before them, where cell 0 holds the value and has the temperature."""
     s.open(0, 1, KEYS)
     s.change(0, "cells", value)
+    if temperature is not None:
+        s.change(0, "temperatures", last_byte(temperature))
     items = [item(Entry(k, *other), 2) for k, other in enumerate(others, 1)]
-    for count, (kind, cell, amount) in enumerate(own, 1):
-        s.make(0, kind, cell, amount)
-        items.append(item(Entry(count, kind, cell, amount), 1))
+    for count, made in enumerate(own, 1):
+        s.make(0, *made)
+        items.append(item(Entry(count, *made), 1))
         outcome, _ = s.take(0, cop.re_message(items))
     return outcome
 
@@ -250,6 +260,177 @@ def conflicts(s):
             assert s.take(0, cop.re_message(items))[0][0] == word
 
 
+def temperatures(s):
+    s.note("Kinds 5 and 6 with each answer, alone; the other kinds leave the temperature")
+    w = World(s)
+    for answer, made in (
+        (0, (READ_TEMP, 15, 0)),
+        (1, warm(15, 9, -40)),
+        (-40, (READ_TEMP, 15, 0)),
+        (9, (READ, 15, 0)),
+        (1, (ADD, 15, 1)),
+        (1, (TAKE, 15, 3)),
+        (263, (TAKE, 15, 8)),
+        (1, (SET, 15, 200)),
+        (-40, (READ_TEMP, 15, 0)),
+        (1, warm(15, 0, 85)),
+        (85, (READ_TEMP, 15, 0)),
+        (0, (READ, 15, 0)),
+        (1, warm(15, 255, -1)),
+        (511, (ADD, 15, 1)),
+        (-1, (READ_TEMP, 15, 0)),
+        (1, warm(15, 255, 0)),
+        (0, (READ_TEMP, 15, 0)),
+        (1, warm(15, 2, 1)),
+        (1, (READ_TEMP, 15, 0)),
+        (0, (READ_TEMP, 14, 0)),
+    ):
+        w.make(3, *made)
+        outcome = w.deliver(3)
+        assert outcome[0] == "answer" and outcome[2] == answer, outcome
+        w.deliver(3)
+    w.deliver_all()
+    s.note("Each cell its own value and temperature, then each read")
+    s.open(0, 1, KEYS)
+    for kind in (SET_WITH_TEMP, READ_TEMP, READ):
+        for cell in range(16):
+            made = warm(cell, 10 * cell + 100, 8 * cell - 40) if kind == SET_WITH_TEMP else (kind, cell, 0)
+            s.make(0, *made)
+            outcome, commit = s.take(0, cop.re_message([item(s.book(0).hand, 1)]))
+            assert outcome[2] == {SET_WITH_TEMP: 1, READ_TEMP: 8 * cell - 40, READ: 10 * cell + 100}[kind]
+            s.take(0, cop.br_message(commit))
+    s.note("Each cell with a temperature before an own kind 6, by hand, and the ends of what it may be")
+    s.open(0, 1, KEYS)
+    for cell in range(16):
+        s.change(0, "temperatures", last_byte(5 * cell - 40), cell)
+    for cell in range(16):
+        s.make(0, READ_TEMP, cell, 0, to=3)
+        assert s.take(3, cop.re_message([item(Entry(1, READ_TEMP, cell, 0), 1)]))[0] == ("answer", 1, 5 * cell - 40)
+    for temperature in (-40, -39, -1, 0, 1, 84, 85):
+        s.change(0, "temperatures", last_byte(temperature), 7, to=3)
+        s.make(3, READ_TEMP, 7, 0)
+        assert s.take(3, cop.re_message([item(Entry(1, READ_TEMP, 7, 0), 1)]))[0] == ("answer", 1, temperature)
+
+
+def temperature_conflicts(s):
+    s.note("Van 2's entries wait, and an own kind 6 is answered or not; cell 0 holds 7 at 20 degrees")
+    own_6 = (READ_TEMP, 0, 0)
+    for others, own, last in (
+        ([warm(0, 7, 20)], [own_6], 20),
+        ([warm(0, 9, 20)], [own_6], 20),
+        ([warm(0, 7, 21)], [own_6], "aside"),
+        ([warm(0, 7, -20)], [own_6], "aside"),
+        ([warm(0, 7, 0)], [own_6], "aside"),
+        ([warm(0, 7, -20), warm(0, 7, 20)], [own_6], "aside"),
+        ([warm(0, 7, 20), warm(0, 7, -20)], [own_6], "aside"),
+        ([warm(1, 9, -20), warm(15, 9, -20)], [own_6], 20),
+        ([(SET, 0, 9), (ADD, 0, 1), (TAKE, 0, 3), (READ, 0, 0), own_6], [own_6], 20),
+        ([warm(0, 7, -20)], [(READ, 0, 0)], 7),
+        ([warm(0, 9, 20)], [(READ, 0, 0)], "aside"),
+        ([warm(0, 7, -20)], [(TAKE, 0, 8)], 263),
+        ([warm(0, 6, 20)], [(TAKE, 0, 8)], "aside"),
+        ([warm(0, 9, -20)], [(TAKE, 0, 7)], 1),
+        ([warm(0, 6, 20)], [(TAKE, 0, 7)], "aside"),
+        ([warm(0, 100, 20), (TAKE, 0, 4)], [(TAKE, 0, 5)], "aside"),
+        ([(TAKE, 0, 4)], [warm(0, 9, 5), (TAKE, 0, 5)], 1),
+        ([(SET, 0, 7)], [warm(0, 9, 5), (READ, 0, 0)], "aside"),
+        ([warm(0, 9, -20)], [(SET, 0, 1)], 1),
+        ([warm(0, 9, -20)], [warm(0, 1, 5)], 1),
+        ([own_6, (READ, 0, 0)], [own_6], 20),
+        ([], [warm(0, 1, -5), own_6], -5),
+        ([], [warm(0, 1, -5), (SET, 0, 9), (ADD, 0, 1), own_6], -5),
+        ([], [warm(0, 1, -5), warm(0, 1, 6), own_6], 6),
+        ([], [warm(1, 1, -5), own_6], 20),
+        ([warm(0, 9, -5)], [warm(0, 1, -5), own_6], -5),
+        ([warm(0, 1, 20)], [warm(0, 1, -5), own_6], "aside"),
+        ([warm(0, 1, 6)], [warm(0, 1, -5), (READ, 1, 0), own_6], "aside"),
+        ([warm(0, 7, 21)], [own_6, warm(0, 1, 5)], 1),
+        ([warm(1, 0, -20)], [own_6, (READ, 1, 0), (READ_TEMP, 1, 0)], "aside"),
+        ([warm(1, 0, 0), warm(0, 7, 20)], [own_6, (READ, 1, 0), (READ_TEMP, 1, 0)], 0),
+    ):
+        outcome = last_outcome(s, 7, others, own, 20)
+        assert outcome[0] == last or outcome[2:] == (last,), (others, own, outcome)
+    s.note("Each cell: another's kind 5 of it with its value and another temperature, and of the next one, before an own kind 6")
+    for cell in range(16):
+        for other, word in ((cell, "aside"), ((cell + 1) % 16, "answer")):
+            s.open(0, 1, KEYS)
+            s.make(0, READ_TEMP, cell, 0)
+            items = [item(Entry(1, *warm(other, 0, -1)), 2), item(Entry(1, READ_TEMP, cell, 0), 1)]
+            assert s.take(0, cop.re_message(items))[0][0] == word
+    s.note("Three vans: a kind 5 waits and a kind 6 is set aside; confirmed, it is read; one with the same value leaves a read alone")
+    w = World(s)
+    w.make(2, *warm(4, 0, -30))
+    w.make(1, READ_TEMP, 4, 0)
+    assert w.deliver(1)[0] == "aside"
+    w.make(3, *warm(4, 6, 30))
+    assert w.deliver(3)[2] == 1
+    w.make(3, READ_TEMP, 4, 0)
+    assert w.deliver(3)[0] == "aside"
+    w.deliver_all()
+    w.make(1, READ_TEMP, 4, 0)
+    assert w.deliver(1)[2] == 30
+    w.deliver_all()
+    w.make(2, *warm(4, 6, -31))
+    w.make(1, READ, 4, 0)
+    assert w.deliver(1)[2] == 6
+    w.deliver_all()
+    w.make(1, READ_TEMP, 4, 0)
+    assert w.deliver(1)[2] == -31
+
+
+def damaged_temperatures(s):
+    s.note("A RE with a kind 5 and an own kind 6: kind, cell, amount and last byte changed, each bit in turn")
+    s.open(0, 1, KEYS)
+    s.make(0, READ_TEMP, 3, 0)
+    items = [item(Entry(1, *warm(2, 9, -40)), 2), item(Entry(1, *warm(2, 9, 85)), 3), item(Entry(1, READ_TEMP, 3, 0), 1)]
+    good = cop.re_message(items)
+    assert s.take(0, good, to=3)[0] == ("answer", 3, 0)
+    for at in (3 + 41 * k + byte for k in range(3) for byte in range(4, 8)):
+        for bit in range(8):
+            assert s.take(0, changed(good, at, 1 << bit), to=3)[0][0] == "halt"
+    s.note("The same van: right tags over each last byte about the ends")
+    for last in LAST_BYTES:
+        listed = [items[0], item(Entry(1, SET_WITH_TEMP, 2, 9, last), 3), items[2]]
+        outcome = s.take(0, cop.re_message(listed), to=3)[0]
+        assert outcome == (("answer", 3, 0) if last <= 85 or last >= 216 else ("halt", 21))
+    for held in (True, False):
+        s.note("BRs of kinds 5 and 6, %s: done, aside, each last byte about the ends" % ("held" if held else "not held"))
+        for last in LAST_BYTES:
+            for status in (DONE, ASIDE):
+                s.open(0, 1, KEYS)
+                s.change(0, "temperatures", 3, 2)
+                first = item(Entry(1, SET_WITH_TEMP, 2, 9, last), 2)
+                if held and (last <= 85 or last >= 216):
+                    s.make(0, READ_TEMP, 3, 0)
+                    s.take(0, cop.re_message([first, items[2]]))
+                value = cop.chain_value(bytes(32), first.entry, 1, 2)
+                outcome, _ = s.take(0, br(first.entry, 2, 1, value, status))
+                assert outcome == (("confirm", 1, status) if last <= 85 or last >= 216 else ("halt", 21))
+                if outcome[0] == "confirm":
+                    held_now = s.book(0).cells.at(2)
+                    assert held_now == ((9, cop.signed(last)) if status == DONE else (0, 3))
+    s.open(0, 1, KEYS)
+    s.change(0, "temperatures", last_byte(-3), 2)
+    s.change(0, "cells", 8, 2)
+    for kind, cell, amount in ((READ_TEMP, 2, 0), (SET, 2, 8), (READ, 2, 0), (ADD, 2, 0), (TAKE, 2, 9)):
+        entry = Entry(1, kind, cell, amount)
+        s.take(0, br(entry, 5, 1, cop.chain_value(bytes(32), entry, 1, 5)), to=3)
+        assert s.book(3).cells == s.book(0).cells
+    s.note("A kind 5 in hand: each last byte about the ends, making and taking; a kind 6 in hand")
+    s.open(0, 1, KEYS)
+    s.make(0, *warm(2, 9, 20))
+    for last in LAST_BYTES:
+        s.change(0, "hand.last", last, to=3)
+        s.make(3, ADD, 0, 1, to=2)
+        s.take(3, cop.re_message([item(Entry(1, SET_WITH_TEMP, 2, 9, last), 1)]), to=2)
+        s.take(3, cop.re_message([item(Entry(1, *warm(2, 9, 20)), 1)]), to=2)
+    s.open(0, 1, KEYS)
+    s.make(0, READ_TEMP, 3, 0)
+    for name, value in (("hand.last", 1), ("hand.last", 255), ("hand.amount", 1), ("hand.kind", READ), ("hand.kind", SET_WITH_TEMP), ("hand.kind", 7)):
+        s.change(0, name, value, to=3)
+        s.take(3, cop.re_message([items[2]]), to=2)
+
+
 def refusals_of_making(s):
     s.note("Making: room 42 and 0, then 43; the rest of the buffer stays")
     s.open(0, 4, KEYS)
@@ -263,20 +444,32 @@ def refusals_of_making(s):
     s.note("Kind, cell, amount")
     for kind, cell, amount in (
         (0, 0, 0),
-        (5, 0, 0),
+        (7, 0, 0),
         (255, 0, 0),
         (ADD, 16, 1),
         (TAKE, 16, 1),
         (READ, 16, 0),
         (SET, 16, 0),
         (SET, 255, 0),
+        (SET_WITH_TEMP, 16, 0),
+        (READ_TEMP, 16, 0),
         (READ, 0, 1),
         (READ, 15, 255),
+        (READ_TEMP, 0, 1),
+        (READ_TEMP, 15, 255),
     ):
-        s.make(0, kind, cell, amount)
+        assert s.make(0, kind, cell, amount)[0] == ("no", 5)
     s.make(0, 0, 0, 0, room=0)
-    for kind, cell, amount in ((ADD, 0, 0), (ADD, 15, 255), (TAKE, 15, 255), (READ, 15, 0), (SET, 15, 255)):
+    for kind, cell, amount in ((ADD, 0, 0), (ADD, 15, 255), (TAKE, 15, 255), (READ, 15, 0), (SET, 15, 255), (SET_WITH_TEMP, 15, 255), (READ_TEMP, 15, 0)):
         s.make(0, kind, cell, amount, to=1)
+    s.note("The last byte: a temperature in kind 5, zero in every other")
+    for last in LAST_BYTES:
+        for kind in range(8):
+            allowed = 1 <= kind <= 6 and (last == 0 or kind == SET_WITH_TEMP and (last <= 85 or last >= 216))
+            assert s.make(0, kind, 3, 0, last, to=1)[0][0] == ("made" if allowed else "no")
+    s.make(0, SET_WITH_TEMP, 16, 0, last_byte(-40))
+    s.make(0, SET_WITH_TEMP, 3, 0, 86, room=0)
+    s.make(0, SET_WITH_TEMP, 3, 0, 85, room=0)
     s.note("Own count at its limit: 5 before 6 before 7")
     s.change(0, "count", cop.LIMIT, to=1)
     s.make(1, 0, 0, 0)
@@ -403,18 +596,14 @@ def damaged_reply(s):
         Entry(0, ADD, 0, 1),
         Entry(cop.LIMIT + 1, ADD, 0, 1),
         Entry(2**32 - 1, ADD, 0, 1),
-        Entry(1, 0, 0, 1),
-        Entry(1, 5, 0, 1),
-        Entry(1, ADD, 16, 1),
-        Entry(1, READ, 0, 1),
-        Entry(1, ADD, 0, 1, 1),
+        *not_in_table(1),
     ):
-        s.take(0, cop.re_message([a, b, item(entry, 3), d]), to=3)
+        assert s.take(0, cop.re_message([a, b, item(entry, 3), d]), to=3)[0] == ("halt", 21)
     for author in (0, 9, 255):
         s.take(0, cop.re_message([a, b, c._replace(author=author), d]), to=3)
 
     s.note("Two faults: the earlier item's first, and in each item 21, 22, 23; room before all of these")
-    bad_entry = item(Entry(1, 5, 0, 1), 3)
+    bad_entry = item(Entry(1, 7, 0, 1), 3)
     bad_tag = item(c.entry, 3)._replace(tag=bytes(32))
     bad_chain = item(Entry(9, ADD, 0, 3), 3)
     for listed in (
@@ -454,6 +643,8 @@ def damaged_reply(s):
         ("cells", 0, 0),
         ("cells", 255, 0),
         ("cells", 255, 5),
+        ("temperatures", 85, 0),
+        ("temperatures", last_byte(-40), 5),
         ("count", 77, 0),
         ("c", 2, 0),
         ("c", 0, 0),
@@ -462,6 +653,7 @@ def damaged_reply(s):
         ("hand.kind", ADD, 0),
         ("hand.cell", 1, 0),
         ("hand.amount", 5, 0),
+        ("hand.kind", SET_WITH_TEMP, 0),
     ):
         s.change(0, name, value, index, to=3)
         s.take(3, good)
@@ -497,6 +689,8 @@ def ranges(s):
         ("hand.count", cop.LIMIT + 1, 0),
         ("hand.kind", 0, 0),
         ("hand.kind", 5, 0),
+        ("hand.kind", 6, 0),
+        ("hand.kind", 7, 0),
         ("hand.kind", READ, 0),
         ("hand.cell", 15, 0),
         ("hand.cell", 16, 0),
@@ -513,6 +707,8 @@ def ranges(s):
         ("chain", 1, 96),
         ("chain", 128, 1055),
         ("cells", 255, 15),
+        *(("temperatures", last, index) for last in LAST_BYTES for index in (0, 15)),
+        *(("temperatures", (86, 215)[index % 2], index) for index in range(1, 15)),
         ("halt", 1, 0),
         ("halt", 19, 0),
         ("halt", 20, 0),
@@ -591,10 +787,7 @@ def damaged_broadcast(s):
             br(a.entry, 2, 2, value, 255),
             br(Entry(0, ADD, 0, 1), 2, 2, value),
             br(Entry(cop.LIMIT + 1, ADD, 0, 1), 2, 2, value),
-            br(Entry(1, 5, 0, 1), 2, 2, value),
-            br(Entry(1, ADD, 16, 1), 2, 2, value),
-            br(Entry(1, READ, 0, 1), 2, 2, value),
-            br(Entry(1, ADD, 0, 1, 1), 2, 2, value),
+            *(br(entry, 2, 2, value) for entry in not_in_table(1)),
         ):
             s.take(slot, message, to=3)
         s.note("Right digests for another entry or author at that place")
@@ -707,7 +900,7 @@ def thirty_two(s):
     draws = Draws("thirty-two")
     for k in range(31):
         van = (1, 3)[k % 2]
-        w.make(van, *draws.entry(1, (0, 1, 2, 3), (0, 1, 2, 5))[1:4])
+        w.make(van, *draws.entry(1, (0, 1, 2, 3), (0, 1, 2, 5))[1:])
         if k < 30:
             w.deliver(van)
     last = w.to_van[1][0]
@@ -734,30 +927,44 @@ def thirty_two(s):
     assert s.book(0).cells == s.book(1).cells == s.book(2).cells
 
 
+# kinds that the drawn lists have
+KINDS = (
+    (ADD, TAKE),
+    (ADD, TAKE, READ, SET),
+    (ADD, ADD, TAKE, READ),
+    (SET, TAKE),
+    (SET_WITH_TEMP, READ_TEMP),
+    (SET_WITH_TEMP, READ_TEMP, SET, READ),
+    (SET, ADD, SET_WITH_TEMP, READ_TEMP, READ_TEMP, READ_TEMP),
+    (ADD, TAKE, READ, SET, SET_WITH_TEMP, READ_TEMP),
+)
+
+
 def drawn_lists(s):
     draws = Draws("lists")
-    for world in range(12):
+    for world in range(16):
         s.note("Drawn lists %d: others' entries and own ones on few cells" % world)
         van = 1 + draws.below(8)
         s.open(0, van, KEYS)
         cells = range(1 + draws.below(4))
+        temperatures = draws.one_of(((20,), (-1, 0), (-40, -1, 85)))
         for cell in cells:
             s.change(0, "cells", draws.one_of((0, 1, 2, 7, 100, 250, 254, 255)), cell)
+            s.change(0, "temperatures", last_byte(draws.one_of(temperatures)), cell)
         amounts = draws.one_of(((0, 1, 2), (0, 1, 3, 100), (1, 2, 5, 250, 255), (0, 7)))
-        kinds = draws.one_of(((ADD, TAKE), (ADD, TAKE, READ, SET), (ADD, ADD, TAKE, READ), (SET, TAKE)))
+        kinds = KINDS[world % len(KINDS)]
         items = []
         counts = [0] * 9
 
         def drawn(author):
             counts[author] += 1
-            kind = draws.one_of(kinds)
-            return Entry(counts[author], kind, draws.one_of(cells), 0 if kind == READ else draws.one_of(amounts))
+            return draws.entry_of(draws.one_of(kinds), counts[author], cells, amounts, temperatures)
 
         rare = 1 + draws.below(3)
         for k in range(10 + draws.below(23)):
             if draws.below(4) < rare:
                 entry = drawn(van)
-                s.make(0, *entry[1:4])
+                s.make(0, *entry[1:])
                 items.append(item(entry, van))
                 s.take(0, cop.re_message(items))
             else:
@@ -777,7 +984,7 @@ def drawn_run(s):
             if draws.below(2):
                 entry = draws.entry(1, range(1 + world), (0, 1, 2, 3, 100))
                 if w.relay.t - w.relay.b < 32:
-                    w.make(van, *entry[1:4])
+                    w.make(van, *entry[1:])
             elif w.to_van[van]:
                 w.deliver(van, draws.one_of((0, 79, 80, 80, 80, 100)))
         w.deliver_all()
@@ -788,8 +995,11 @@ SECTIONS = (
     document_listing,
     every_kind,
     conflicts,
+    temperatures,
+    temperature_conflicts,
     refusals_of_making,
     damaged_reply,
+    damaged_temperatures,
     ranges,
     damaged_broadcast,
     own_statuses,

@@ -8,8 +8,8 @@ from collections import deque
 import cop
 import server_run
 from call_lines import hexadecimal
-from cop import ADD, ASIDE, DONE, READ, SET, TAKE, Entry
-from draws import Draws
+from cop import ADD, ASIDE, DONE, READ, READ_TEMP, SET, SET_WITH_TEMP, TAKE, Entry, warm
+from draws import LAST_BYTES, Draws
 from server_run import LAYOUT
 
 VANS = range(1, 9)
@@ -53,8 +53,8 @@ class Script:
         return self.take(number, message, room, slot, 1)[0]
 
 
-def invoke(van, count, kind=ADD, cell=0, amount=1):
-    return cop.in_message(KEYS, Entry(count, kind, cell, amount), van)
+def invoke(van, count, kind=ADD, cell=0, amount=1, last=0):
+    return cop.in_message(KEYS, Entry(count, kind, cell, amount, last), van)
 
 
 def commit(van, entry, place, status=DONE):
@@ -80,7 +80,7 @@ def drawn_runs(s):
             act = draws.below(3)
             if act == 0:
                 entry = draws.entry(1, range(2), (0, 1, 2, 100))
-                books[van], outcome, out = cop.make(books[van], *entry[1:4], bytes(43))
+                books[van], outcome, out = cop.make(books[van], *entry[1:], bytes(43))
                 if outcome[0] == "made":
                     up[van].append(out)
             elif act == 1 and up[van]:
@@ -144,15 +144,45 @@ def damaged_messages(s):
         Entry(cop.LIMIT + 1, ADD, 0, 1),
         Entry(2**32 - 1, ADD, 0, 1),
         Entry(3, 0, 0, 1),
-        Entry(3, 5, 0, 1),
+        Entry(3, 7, 0, 1),
+        Entry(3, 7, 0, 0),
         Entry(3, ADD, 16, 1),
+        Entry(3, SET_WITH_TEMP, 16, 1),
         Entry(3, READ, 0, 1),
-        Entry(3, ADD, 0, 1, 1),
+        Entry(3, READ_TEMP, 0, 1),
+        *(Entry(3, kind, 0, 0, last) for kind in (ADD, TAKE, READ, SET, READ_TEMP) for last in (1, 85, 255)),
+        *(Entry(3, *warm(0, 1, temperature)) for temperature in (86, 127, -128, -41)),
     ):
-        s.look(2, cop.in_message(KEYS, entry, 2))
-        s.look(2, commit(2, entry, 4))
+        assert s.look(2, cop.in_message(KEYS, entry, 2)) == s.look(2, commit(2, entry, 4)) == ("no", 30)
     for status in (2, 3, 128, 255):
         s.look(1, commit(1, Entry(2, SET, 3, 9), 3, status))
+
+
+def temperatures(s):
+    s.note("Kinds 4, 5 and 6 with each last byte about the ends: an IN, and a CO with that byte changed; then all that came through passed on")
+    s.fresh()
+    placed = []
+    for last in LAST_BYTES:
+        for kind in (SET, SET_WITH_TEMP, READ_TEMP):
+            entry = Entry(len(placed) + 1, kind, 7, 0, last)
+            fits = last == 0 or kind == SET_WITH_TEMP and (last <= 85 or last >= 216)
+            outcome, _ = s.take(4, cop.in_message(KEYS, entry, 4))
+            assert outcome == (("placed", entry.count) if fits else ("no", 30))
+            placed += [entry] * fits
+            s.look(4, commit(4, entry._replace(last=last ^ 1), entry.count))
+    for place, entry in enumerate(placed, 1):
+        assert s.take(4, commit(4, entry, place, place % 2))[0] == ("passed", 1)
+    s.note("A stored kind 5 and kind 6, a byte of theirs changed: at and past the ends")
+    s.fresh()
+    s.take(4, invoke(4, 1, *warm(7, 9, -40)))
+    s.take(5, invoke(5, 1, READ_TEMP, 7, 0))
+    for last in LAST_BYTES:
+        for item in (0, 1):
+            s.change("items", last, 41 * item + 7, to=1)
+            s.take(6, invoke(6, 1), slot=1, to=1)
+    for at, value in ((4, 6), (4, 7), (4, 4), (5, 16), (6, 0), (41 + 4, 5), (41 + 4, 3), (41 + 4, 7), (41 + 6, 1)):
+        s.change("items", value, at, to=1)
+        s.take(6, invoke(6, 1), slot=1, to=1)
 
 
 def invokes(s):
@@ -287,6 +317,8 @@ def ranges(s):
         ("items", 0, 3),
         ("items", 0, 4),
         ("items", 5, 4),
+        ("items", 6, 4),
+        ("items", 7, 4),
         ("items", 15, 5),
         ("items", 16, 5),
         ("items", 1, 7),
@@ -335,7 +367,7 @@ def ranges(s):
     assert s.take(1, commit(1, Entry(3, READ, 15, 0), 5), 240)[0] == ("passed", 3)
 
 
-SECTIONS = (drawn_runs, damaged_messages, invokes, commits, thirty_two, limits, ranges)
+SECTIONS = (drawn_runs, damaged_messages, temperatures, invokes, commits, thirty_two, limits, ranges)
 
 
 def main():

@@ -38,12 +38,16 @@ def pending():
 
 def full():
     """Only van 1 takes its messages: at 256 broadcasts that others have not taken, `full`, until each took one."""
-    lines = [line for n in range(256) for line in (invoke(1, 1 + n % 4, n % 16, 0 if n % 4 == 2 else n % 3), deliver(1), deliver(1))]
+    kinds = (1, 2, 3, 4, 1, 2, 5, 6)
+    lines = []
+    for n in range(256):
+        kind = kinds[n % 8]
+        lines += [invoke(1, kind, (n + n // 16) % 16, 0 if kind in (3, 6) else n % 3), deliver(1), deliver(1)]
     lines += [invoke(1), invoke(8, 9, 9, 9), invoke(0), deliver(1)]
     for van in range(2, 9):
         lines += [deliver(van), invoke(van)]
     lines += [deliver(van) for van in VANS for _ in range(3)]
-    lines += [invoke(van, 3, van) for van in VANS]
+    lines += [invoke(van, 3 if van % 2 else 6, van) for van in VANS]
     lines += [deliver(van) for van in VANS for _ in range(265)]
     return join(lines)
 
@@ -61,12 +65,14 @@ def bad():
     lines = [invoke(1, 4, 0, 7)]
     for n, form in enumerate(forms):
         lines += [form] + ([deliver(1 + n // 4 % 2)] if n % 4 == 0 else [])
-    lines += [b"D 008", b"I 01 004 0 0255", b"D " + b"0" * (LONGEST - 3) + b"1", b"I 1 3 16 0", b"I 1 0 0 0", b"I 1 3 0 1", b"D 1"]
+    lines += [b"D 008", b"I 01 004 0 0255", b"D " + b"0" * (LONGEST - 3) + b"1", b"I 1 3 16 0", b"I 1 0 0 0", b"I 1 3 0 1"]
+    lines += [b"I 1 6 0 1", b"I 1 6 16 0", b"I 1 5 16 0", b"I 1 7 0 0", b"I 1 255 0 0", b"I 1 5 0 255 0", b"I 1 5 0 -1", b"D 1"]
     return join(lines) + b"I 2 4 1 3"
 
 
 def drawn():
-    """A drawn run: quiet and busy stretches, all kinds, refused operations, lines of other forms."""
+    """A drawn run: quiet and busy stretches, all kinds (in the trial a kind 5's temperature is 0), refused operations, lines of other
+    forms."""
     draws = Draws("trial")
     lines = []
     for stretch in range(48):
@@ -77,12 +83,12 @@ def drawn():
             van = draws.one_of(vans)
             draw = draws.below(100)
             if draw < making:
-                entry = draws.entry(1, range(cells), (0, 1, 2, 3, 5, 200, 255))
+                entry = draws.entry(1, range(cells), (0, 1, 2, 3, 5, 200, 255), (0,))
                 lines.append(invoke(van, entry.kind, entry.cell, entry.amount))
             elif draw < 96:
                 lines.append(deliver(draws.one_of(vans) if draws.below(2) else draws.one_of(VANS)))
             elif draw < 98:
-                lines.append(invoke(van, draws.below(6), draws.below(18), draws.below(256)))
+                lines.append(invoke(van, draws.below(8), draws.below(18), draws.one_of((0, draws.below(256)))))
             else:
                 lines.append(draws.one_of((b"", b"D", b"D 9", b"I 1 1 1", b"I 1 1 1 1 1", b"D 1\r", b"I 1 1 0 256", b"what")))
         if stretch % 3 == 2:

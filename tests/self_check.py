@@ -1,18 +1,21 @@
-"""Checks cop.py and trial.py: document 01's cases (with document 02's answers), its trial listing, the two conflict tests against each
-other, and what the document says of whole runs, on drawn schedules. `python3 tests/self_check.py`."""
+"""Checks cop.py and trial.py: document 01's cases (with document 02's answers and temperatures), its trial listing, the two conflict
+tests against each other, and what the document says of whole runs, on drawn schedules. `python3 tests/self_check.py`."""
+
+from dataclasses import replace
 
 import cop
-from cop import ADD, READ, SET, TAKE, Entry
-from draws import Draws
+from cop import ADD, READ, READ_TEMP, SET, SET_WITH_TEMP, TAKE, Cells, Entry
+from draws import TEMPERATURES, Draws
 from trial import KEYS, VANS, Trial, lines_of, run
 
 
-def cells_with(value, cell=0):
-    return (0,) * cell + (value,) + (0,) * (15 - cell)
+def cells_with(value, temperature=0, cell=0):
+    return Cells().put(cell, (value, temperature))
 
 
 def entries(*pairs, cell=0):
-    return [Entry(1, kind, cell, amount) for kind, amount in pairs]
+    """Entries of kinds and amounts, with a temperature third in kind 5."""
+    return [Entry(1, kind, cell, amount, *map(cop.last_byte, temperature)) for kind, amount, *temperature in pairs]
 
 
 def table_cases():
@@ -27,7 +30,30 @@ def table_cases():
         (0, TAKE, 1, 256, 0),
     ):
         for cell in range(16):
-            assert cop.run(Entry(1, kind, cell, amount), cells_with(value, cell)) == (answer, cells_with(after, cell))
+            for temperature in (-40, -1, 0, 85):
+                (entry,) = entries((kind, amount), cell=cell)
+                assert cop.run(entry, cells_with(value, temperature, cell)) == (answer, cells_with(after, temperature, cell))
+                (entry,) = entries((SET_WITH_TEMP, amount, temperature), cell=cell)
+                assert cop.run(entry, cells_with(value, 20, cell)) == (1, cells_with(amount, temperature, cell))
+                (entry,) = entries((READ_TEMP, 0), cell=cell)
+                assert cop.run(entry, cells_with(value, temperature, cell)) == (temperature, cells_with(value, temperature, cell))
+
+
+def table_ranges():
+    assert [cop.signed(byte) for byte in (0, 85, 127, 128, 216, 255)] == [0, 85, 127, -128, -40, -1]
+    assert all(cop.signed(cop.last_byte(n)) == n for n in range(-128, 128))
+    lasts = {kind: [0] for kind in range(1, 7)} | {SET_WITH_TEMP: [*range(86), *range(216, 256)]}
+    for kind in range(256):
+        for amount in (0, 1, 255):
+            by_amount = amount == 0 or kind not in (READ, READ_TEMP)
+            found = [last for last in range(256) if cop.in_table(kind, 15, amount, last)]
+            assert found == (lasts.get(kind, []) if by_amount else []), (kind, amount)
+            assert not any(cop.in_table(kind, 16, amount, last) for last in range(256))
+    book, _ = cop.open_book(1, KEYS)
+    for temperature in range(-128, 128):
+        for cell in range(16):
+            strange = replace(book, cells=cells_with(0, temperature, cell))
+            assert cop.book_in_range(strange) == (-40 <= temperature <= 85)
 
 
 def conflict_cases():
@@ -46,16 +72,29 @@ def conflict_cases():
         (7, entries((TAKE, 2)), entries((TAKE, 8)), True),
         (7, entries((SET, 7)), entries((TAKE, 8)), False),
         (7, entries((TAKE, 8)), entries((TAKE, 8)), False),
+        (7, entries((SET_WITH_TEMP, 7, 20)), entries((READ_TEMP, 0)), False),
+        (7, entries((SET_WITH_TEMP, 9, 20)), entries((READ_TEMP, 0)), False),
+        (7, entries((SET_WITH_TEMP, 7, -20)), entries((READ_TEMP, 0)), True),
+        (7, entries((SET_WITH_TEMP, 7, -20), cell=1), entries((READ_TEMP, 0)), False),
+        (7, entries((SET_WITH_TEMP, 7, -20), (SET_WITH_TEMP, 7, 20)), entries((READ_TEMP, 0)), True),
+        (7, entries((SET, 9), (ADD, 1), (TAKE, 1), (READ, 0), (READ_TEMP, 0)), entries((READ_TEMP, 0)), False),
+        (7, entries((SET_WITH_TEMP, 7, -20)), entries((READ, 0)), False),
+        (7, entries((SET_WITH_TEMP, 9, 20)), entries((READ, 0)), True),
+        (7, entries((SET_WITH_TEMP, 9, -20)), entries((SET_WITH_TEMP, 3, 85), (SET, 4)), False),
+        (7, entries((SET_WITH_TEMP, 9, 5)), entries((SET_WITH_TEMP, 3, 5), (READ_TEMP, 0)), False),
+        (7, entries((SET_WITH_TEMP, 9, 5)), entries((SET_WITH_TEMP, 9, 6), (READ_TEMP, 0)), True),
+        (7, entries((READ_TEMP, 0)), entries((READ_TEMP, 0), (READ, 0)), False),
     ):
         for test in (cop.conflict_by_definition, cop.conflict):
-            assert test(others, own, cells_with(value)) == expected, (value, others, own)
+            assert test(others, own, cells_with(value, 20)) == expected, (value, others, own)
 
 
 def conflict_agrees():
     draws = Draws("conflict")
     yes = 0
     for case in range(1500):
-        cells = tuple(draws.one_of((0, 1, 3, 5, 250, 255)) for _ in range(16))
+        values = tuple(draws.one_of((0, 1, 3, 5, 250, 255)) for _ in range(16))
+        cells = Cells(values, tuple(draws.one_of(TEMPERATURES) for _ in range(16)))
         used = range(1 + draws.below(3))
         others = [draws.entry(1, used, (0, 1, 2, 3, 5, 250, 255)) for _ in range(draws.below(6))]
         own = [draws.entry(1, used, (0, 1, 2, 3, 5, 250, 255)) for _ in range(1 + draws.below(4))]
@@ -84,7 +123,7 @@ def trial_listing():
 
 
 def trial_words():
-    assert run([b"I 1 5 0 0", b"I 9 1 0 0", b"D 1", b"D 0", b"I 1 1 0 256", b"X", b"", b"I 1 1 0  0", b"D 1 "]) == [
+    assert run([b"I 1 7 0 0", b"I 9 1 0 0", b"D 1", b"D 0", b"I 1 1 0 256", b"X", b"", b"I 1 1 0  0", b"D 1 "]) == [
         "1 1 no 5",
         "2 0 bad",
         "3 1 empty",
@@ -94,6 +133,18 @@ def trial_words():
         "7 0 bad",
         "8 0 bad",
         "9 0 bad",
+    ]
+    # Kind 5 sets the cell, and its temperature to 0; kind 6 answers that, and has amount 0.
+    assert run([b"I 1 6 3 1", b"I 1 5 3 9", b"D 1", b"D 1", b"I 1 6 3 0", b"D 1", b"D 1", b"I 1 3 3 0", b"D 1"]) == [
+        "1 1 no 5",
+        "2 1 placed 1",
+        "3 1 answer 1 1",
+        "4 1 confirm 1 1",
+        "5 1 placed 2",
+        "6 1 answer 2 0",
+        "7 1 confirm 2 1",
+        "8 1 placed 3",
+        "9 1 answer 3 9",
     ]
     # Van 2's `RE` is not delivered, so places fill up: the 33rd `IN` is refused and offered again.
     lines = [b"I 2 1 0 0"] + [b"I 1 1 1 0", b"D 1"] * 31 + [b"I 1 1 1 0", b"I 1 1 1 0", b"D 2", b"D 1", b"D 2"]
@@ -109,7 +160,7 @@ def trial_words():
 def relay_numbers():
     """Each of the relay's refusals once, and that out bytes and state stay."""
     book, _ = cop.open_book(1, KEYS)
-    book, _, made = cop.make(book, ADD, 0, 1, bytes(43))
+    book, _, made = cop.make(book, ADD, 0, 1, 0, bytes(43))
     fresh = cop.Relay()
     out = b"\xaa" * 200
 
@@ -144,6 +195,7 @@ def relay_numbers():
 
 def whole_runs():
     """With this relay no van halts, vans confirm one history, and each author got what it says."""
+    negative = 0
     for seed in range(6):
         draws = Draws("run %d" % seed)
         trial = Trial()
@@ -156,7 +208,7 @@ def whole_runs():
                 trial.offer_again()
                 if not trial.full():
                     e = draws.entry(1, range(2 + seed), (0, 1, 2, 3, 5, 200))
-                    words.add(trial.make(van, e.kind, e.cell, e.amount)[0])
+                    words.add(trial.make(van, *e[1:])[0])
                 continue
             head = trial.to_van[van][0] if trial.to_van[van] else b""
             outcome = trial.deliver(van)
@@ -169,21 +221,24 @@ def whole_runs():
                 item = cop.item_of(head[-41:])
                 assert (item.entry, item.author) not in got
                 got[item.entry, item.author] = outcome
+                negative += outcome[0] == "answer" and outcome[2] < 0
         longest = max(confirmed.values(), key=len)
         assert len(longest) > 50 and {"empty", "answer", "aside", "confirm", "placed"} <= words, words
         for history in confirmed.values():
             assert history == longest[: len(history)]
-        cells = (0,) * 16
+        cells = Cells()
         for at, (entry, author, place, status, after) in enumerate(longest, 1):
             expected = ("aside", at)
             if status == cop.DONE:
                 answer, cells = cop.run(entry, cells)
                 expected = ("answer", at, answer)
             assert place == at and cells == after and got[entry, author] == expected
+    assert negative > 10, negative
 
 
 CHECKS = (
     table_cases,
+    table_ranges,
     conflict_cases,
     conflict_agrees,
     trial_listing,

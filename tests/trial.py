@@ -1,4 +1,4 @@
-"""Document 01's trial program over cop.py: `python3 tests/trial.py < lines`."""
+"""Document 01's trial program, with kinds 5 and 6 of document 02's Q-2, over cop.py: `python3 tests/trial.py < lines`."""
 
 import re
 import sys
@@ -33,8 +33,9 @@ class Trial:
             if self.offer(van, self.refused[van])[0] == "placed":
                 del self.refused[van]
 
-    def make(self, van, kind, cell, amount):
-        self.books[van], outcome, out = cop.make(self.books[van], kind, cell, amount, ROOM)
+    def make(self, van, kind, cell, amount, last=0):
+        """ "The trial program's kind 5 has temperature 0." """
+        self.books[van], outcome, out = cop.make(self.books[van], kind, cell, amount, last, ROOM)
         if outcome[0] != "made":
             return outcome
         outcome = self.offer(van, out[:43])

@@ -11,6 +11,7 @@ use lib.Dec.{eqb}
 use lib.ListN.{length, length-append}
 use borrow.Author.Tests.{eq-eqb}
 use Rattle.replica.specs.Outcome.{Told, confirmed}
+use Rattle.operation.specs.declared.Cells.{Cells}
 use Rattle.operation.specs.Operation.{zeroCells}
 use Rattle.agreement.specs.WholeRuns.{Call, caller, stepOf, World, start, update, Logged, says, runFrom, logOf, allOf, taken, Entry, Confirmation, confirmationOf, history, entries, Replied, answer, aside, runEntries, strings, LetOff, collision, forgery, Answered, Agreement, Demand}
 use Rattle.agreement.proofs.Agreement.{demand}
@@ -61,7 +62,7 @@ history-last i older v seq status c q =
     all-append _ older (v ∷ [])
     ∙ ap (λ (l : List Confirmation). history i older ++ l) (last-conf (eqb (caller (v .call)) i) (says v) (confirmationOf v) seq status (eq-eqb _ _ c) q)
 
-before-last : (older : List Logged) (v : Logged) (e : Entry) (cells : List ℕ) (seq status : ℕ) → says v ≡ confirmed seq status
+before-last : (older : List Logged) (v : Logged) (e : Entry) (cells : Cells) (seq status : ℕ) → says v ≡ confirmed seq status
     → Answered (older ++ (v ∷ [])) e cells → Answered older e cells
 before-last older v e cells seq status q A =
     record {

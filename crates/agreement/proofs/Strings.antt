@@ -8,6 +8,7 @@ use native.Mathlib.Omega.{arith}
 use native.Mathlib.Nat.{eq-or-lt-of-le, le-of-suc-le-suc}
 use lib.ListN.{length}
 use Rattle.operation.specs.declared.Operation.{Operation}
+use Rattle.operation.specs.declared.Cells.{Cells}
 use Rattle.message.specs.declared.Commit.{Commit}
 use Rattle.message.specs.Message.{chainString, replyCount, replyItem, commitOf}
 use Rattle.round_trips.proofs.Operations.{ok-fits}
@@ -128,7 +129,7 @@ module _ (keys : List ℕ) (log : List Logged) (F : (e : Logged) → List·Mem�
 
       go : Kind (s .event) → Commits i k o
       go (quiet q w) = absurd (let z : _≡_ {A = ℕ} 0 1 = cc (q, s .did) in omega arith)
-      go (makes kind cell amount room z q t) = absurd (let z : _≡_ {A = ℕ} 0 1 = cc (t, s .did) in omega arith)
+      go (makes kind cell amount last room z q t) = absurd (let z : _≡_ {A = ℕ} 0 1 = cc (t, s .did) in omega arith)
       go (confirms-it z q t) = absurd (let z : _≡_ {A = ℕ} 0 1 = cc (t, s .did) in omega arith)
       go (commits room z q t) =
           let u : _≡_ {A = List Ev} (commit (caller (s .event .call)) (comOf (s .event)) ∷ []) (commit i k ∷ []) = sym t ∙ s .did in
@@ -159,7 +160,7 @@ module _ (keys : List ℕ) (log : List Logged) (F : (e : Logged) → List·Mem�
     pub tgs : tags event ≡ broadcastCarried (commitOf (took event)) ∷ []
     pub ready : Ready keys (caller (event .call)) (event .before)
 
-  pub confirm-is : {i : ℕ} {v : List ℕ} {k : Commit} {cells : List ℕ} {o : List Ev} → Split log [] (confirm i v k cells) o → Confirms v k o
+  pub confirm-is : {i : ℕ} {v : List ℕ} {k : Commit} {cells : Cells} {o : List Ev} → Split log [] (confirm i v k cells) o → Confirms v k o
   confirm-is {i} {v} {k} {cells} {o} s = go (kind-of (s .event) (f .case))
     where
       f : Fine keys (s .event)
@@ -167,7 +168,7 @@ module _ (keys : List ℕ) (log : List Logged) (F : (e : Logged) → List·Mem�
 
       go : Kind (s .event) → Confirms v k o
       go (quiet q w) = absurd (let z : _≡_ {A = ℕ} 0 1 = cc (q, s .did) in omega arith)
-      go (makes kind cell amount room z q t) = absurd (let z : _≡_ {A = ℕ} 0 1 = cc (t, s .did) in omega arith)
+      go (makes kind cell amount last room z q t) = absurd (let z : _≡_ {A = ℕ} 0 1 = cc (t, s .did) in omega arith)
       go (commits room z q t) = absurd (let z : _≡_ {A = ℕ} 0 1 = cc (t, s .did) in omega arith)
       go (confirms-it z q t) =
           let u : _≡_ {A = List Ev} (confirms (caller (s .event .call)) (s .event .before) (commitOf (took (s .event))) ∷ []) (confirm i v k cells ∷ []) = sym t ∙ s .did in

@@ -88,14 +88,14 @@ tagger keys older a s F T = go (kind-of (T .event) (f .case))
     go : Kind (T .event) → Tagger older a s
     go (quiet q w) = absurd (not-none s (tagBy keys a s) (tag-long keys a s) (sym w ∙ T .wrote))
     go (confirms-it z q t) = absurd (not-none s (tagBy keys a s) (tag-long keys a s) (sym (ap (λ (s : Step). s .wrote) q) ∙ T .wrote))
-    go (makes kind cell amount room z q t) =
+    go (makes kind cell amount last room z q t) =
         let e = T .event in
         let n : ℕ = e .before .number in
-        let op : Operation = newOp (e .before) kind cell amount in
+        let op : Operation = newOp (e .before) kind cell amount last in
         let p : s ≡ invokeString op n = front-same s (invokeString op n) (tagBy keys a s) (invokeTag (e .before .keys) op n) (tag-long keys a s) (invoke-tag-length (e .before .keys) op n)
-        (sym (T .wrote) ∙ made-wrote e kind cell amount q) in
+        (sym (T .wrote) ∙ made-wrote e kind cell amount last q) in
         let at = mem-at older [] e (T .mem) t in
-        byMake op (at .0) n (subst (λ (i : ℕ). At (onto older []) (made i op) (at .0)) (T .by) (at .1)) (ok-fits op (invoke-current (e .before) kind cell amount room z)) p
+        byMake op (at .0) n (subst (λ (i : ℕ). At (onto older []) (made i op) (at .0)) (T .by) (at .1)) (ok-fits op (invoke-current (e .before) kind cell amount last room z)) p
     go (commits room z q t) =
         let e = T .event in
         let r = e .before in

@@ -6,10 +6,12 @@ use mathlib.Core.Logic.{_⊎_, inl, inr}
 use mathlib.Core.List.{List, [], _∷_, _++_, List·Memᴰ, List·Memᴰ·head, List·Memᴰ·tail, List·Memᴰ·eq-of-singleton}
 use mathlib.Core.Bool.{false}
 use native.Mathlib.Omega.{arith}
+use lib.IntN.{pos}
 use lib.ListN.{length, replicate}
 use Rattle.sha256.specs.Sha256.{sha256}
 use Rattle.operation.specs.declared.Operation.{Operation}
-use Rattle.operation.specs.Operation.{value, response, after, responseOn, effect}
+use Rattle.operation.specs.declared.Cells.{Cells}
+use Rattle.operation.specs.Operation.{value, temp, valueResponse, response, after, responseOn, effect}
 use Rattle.message.specs.declared.Item.{Item}
 use Rattle.message.specs.Message.{invokeString, commitString, chainString, replyBytes, broadcastBytes}
 use Rattle.round_trips.proofs.Messages.{broadcast-read, invoke-string-fields}
@@ -30,25 +32,25 @@ use Rattle.agreement_runs.proofs.ListedEarlySteps.{sa₁, sa₃, passes
 
 abbrev calls : List ℕ → List Call
 calls keys =
-    invoke 1 3 0 0 43
+    invoke 1 3 0 0 0 43
     ∷ receive 1 (replyBytes (iB keys ∷ iA keys ∷ [])) 80
-    ∷ invoke 1 4 0 9 43
+    ∷ invoke 1 4 0 9 0 43
     ∷ receive 1 (replyBytes (iB keys ∷ [])) 80
     ∷ receive 2 (broadcastBytes (kB keys)) 0
     ∷ receive 2 (broadcastBytes (kA keys)) 0
     ∷ []
 
 abbrev e₁ : List ℕ → Logged
-e₁ keys = madeEvent 1 (a₀ keys) 3 0 0
+e₁ keys = madeEvent 1 (a₀ keys) 3 0 0 0
 
 abbrev e₂ : List ℕ → Logged
-e₂ keys = replyEvent 1 (a₁ keys) (iB keys ∷ iA keys ∷ []) 2 false 0
+e₂ keys = replyEvent 1 (a₁ keys) (iB keys ∷ iA keys ∷ []) 2 false (pos 0)
 
 abbrev e₃ : List ℕ → Logged
-e₃ keys = madeEvent 1 (a₂ keys) 4 0 9
+e₃ keys = madeEvent 1 (a₂ keys) 4 0 9 0
 
 abbrev e₄ : List ℕ → Logged
-e₄ keys = replyEvent 1 (a₃ keys) (iB keys ∷ []) 1 false 1
+e₄ keys = replyEvent 1 (a₃ keys) (iB keys ∷ []) 1 false (pos 1)
 
 abbrev rest : List ℕ → List Logged
 rest keys = e₃ keys ∷ e₄ keys ∷ confirmEvent 2 (b₀ keys) (kB keys) ∷ confirmEvent 2 (b₁ keys) (kA keys) ∷ []
@@ -56,12 +58,15 @@ rest keys = e₃ keys ∷ e₄ keys ∷ confirmEvent 2 (b₀ keys) (kB keys) ∷
 abbrev log : List ℕ → List Logged
 log keys = e₁ keys ∷ e₂ keys ∷ rest keys
 
--- what client 2 confirms
+-- what client 2 confirms, and its cells after each
+abbrev cellsAfter : Cells
+cellsAfter = record { values = 9 ∷ replicate 15 0; temps = replicate 16 0 }
+
 abbrev cB : Confirmation
-cB = record { entry = record { op = oB; author = 1; seq = 1; status = 1 }; cells = 9 ∷ replicate 15 0 }
+cB = record { entry = record { op = oB; author = 1; seq = 1; status = 1 }; cells = cellsAfter }
 
 abbrev cA : Confirmation
-cA = record { entry = record { op = oA; author = 1; seq = 2; status = 1 }; cells = 9 ∷ replicate 15 0 }
+cA = record { entry = record { op = oA; author = 1; seq = 2; status = 1 }; cells = cellsAfter }
 
 module _ (keys : List ℕ) (L : length keys ≡ 256) where
   the-run : Run (start keys) (calls keys) (log keys)
@@ -81,11 +86,11 @@ module _ (keys : List ℕ) (L : length keys ≡ 256) where
   -- ---- who tagged what
   madeA : (older : List Logged) → List·Memᴰ (e₁ keys) older → Tagged keys older 1 (invokeString oA 1)
   unfolding caller invokeTag tagBy
-  madeA older m = record { event = e₁ keys; mem = m; by = refl; wrote = made-wrote (e₁ keys) 3 0 0 refl }
+  madeA older m = record { event = e₁ keys; mem = m; by = refl; wrote = made-wrote (e₁ keys) 3 0 0 0 refl }
 
   madeB : (older : List Logged) → List·Memᴰ (e₃ keys) older → Tagged keys older 1 (invokeString oB 1)
   unfolding caller invokeTag tagBy repliedReplica
-  madeB older m = record { event = e₃ keys; mem = m; by = refl; wrote = made-wrote (e₃ keys) 4 0 9 refl }
+  madeB older m = record { event = e₃ keys; mem = m; by = refl; wrote = made-wrote (e₃ keys) 4 0 9 0 refl }
 
   committedA : (older : List Logged) → List·Memᴰ (e₂ keys) older → Tagged keys older 1 (commitString oA 1 2 v₂ 1)
   unfolding caller
@@ -100,7 +105,7 @@ module _ (keys : List ℕ) (L : length keys ≡ 256) where
   not-yet T =
       let e : T .event ≡ e₁ keys = List·Memᴰ·eq-of-singleton (T .mem) in
       let w : invokeString oB 1 ++ tagBy keys 1 (invokeString oB 1) ≡ invokeString oA 1 ++ invokeTag keys oA 1
-      = sym (T .wrote) ∙ ap (λ (e : Logged). e .step .wrote) e ∙ made-wrote (e₁ keys) 3 0 0 refl in
+      = sym (T .wrote) ∙ ap (λ (e : Logged). e .step .wrote) e ∙ made-wrote (e₁ keys) 3 0 0 0 refl in
       let s = front-same (invokeString oB 1) (invokeString oA 1) (tagBy keys 1 (invokeString oB 1)) (invokeTag keys oA 1) (tag-long keys 1 (invokeString oB 1)) (invoke-tag-length keys oA 1) w in
       let o : oB ≡ oA = invoke-string-fields oB oA 1 1 (omega arith) (omega arith) s .0 in
       let n : _≡_ {A = ℕ} 2 1 = ap (λ (e : Operation). e .count) o in
@@ -110,7 +115,7 @@ module _ (keys : List ℕ) (L : length keys ≡ 256) where
   unfolding invokeTag tagBy
   off =
       forgery (e₁ keys ∷ []) (rest keys) (e₂ keys) (itemCarried (iB keys)) refl
-      (subst (λ (l : List Carried). List·Memᴰ (itemCarried (iB keys)) l) (sym (two-tags (a₁ keys) (iB keys) (iA keys) (fB keys) (fA keys) 1 false 0)) (List·Memᴰ·head refl))
+      (subst (λ (l : List Carried). List·Memᴰ (itemCarried (iB keys)) l) (sym (two-tags (a₁ keys) (iB keys) (iA keys) (fB keys) (fA keys) 1 false (pos 0))) (List·Memᴰ·head refl))
       refl not-yet
 
   -- ---- and by nothing else
@@ -128,32 +133,32 @@ module _ (keys : List ℕ) (L : length keys ≡ 256) where
   good =
       next made-shows
       (next
-      (two-shows (a₁ keys) (iB keys) (iA keys) (fB keys) (fA keys) (passes₂ keys L) (sa₁ keys L .sized) 1 false 0
+      (two-shows (a₁ keys) (iB keys) (iA keys) (fB keys) (fA keys) (passes₂ keys L) (sa₁ keys L .sized) 1 false (pos 0)
       (is-first (a₁-zero keys L))
       (is-second (ap (λ (v : List ℕ). linkValue v oB 1 1) (a₁-zero keys L)))
       (inr refl) (inl (madeA _ first)))
       (next made-shows
-      (next (one-shows (a₃ keys) (iB keys) (fB keys) (passes₄ keys L) (sa₃ keys L .sized) 1 false 1 (is-first (a₃-zero keys L)) (inr refl))
+      (next (one-shows (a₃ keys) (iB keys) (fB keys) (passes₄ keys L) (sa₃ keys L .sized) 1 false (pos 1) (is-first (a₃-zero keys L)) (inr refl))
       (next (confirm-shows (b₀ keys) (kB keys) (gB keys) 2 (is-first (b₀-zero keys L)) (inl (committedB _ (List·Memᴰ·tail (List·Memᴰ·tail (List·Memᴰ·tail first))))))
       (next (confirm-shows (b₁ keys) (kA keys) (gA keys) 2 (is-second (b₁-zero keys L)) (inl (committedA _ (List·Memᴰ·tail first))))
       end)))))
 
   -- ---- the claim fails: client 1 got 0 for its read, which gives 9 after the set
   history₂ : history 2 (log keys) ≡ cB ∷ cA ∷ []
-  unfolding history allOf caller messageOf taken confirmedReplica effect after value
+  unfolding history allOf caller messageOf taken confirmedReplica effect after value temp
   history₂ =
-      (λ t. record { entry = entryOf (broadcast-read (kB keys) (gB keys) t); cells = 9 ∷ replicate 15 0 }
-      ∷ record { entry = entryOf (broadcast-read (kA keys) (gA keys) t); cells = 9 ∷ replicate 15 0 } ∷ [])
+      (λ t. record { entry = entryOf (broadcast-read (kB keys) (gB keys) t); cells = cellsAfter }
+      ∷ record { entry = entryOf (broadcast-read (kA keys) (gA keys) t); cells = cellsAfter } ∷ [])
 
-  got : Got 1 oA (responded 2 0) (e₂ keys)
+  got : Got 1 oA (responded 2 (pos 0)) (e₂ keys)
   unfolding caller messageOf replyBytes
   got = record { by = refl; last = ap (λ (i : Item). i .op) (second-item (a₁ keys) (iB keys) (iA keys) (fB keys) (fA keys)); told = refl; reply = answer }
 
   fails : Agreement (log keys) → ⊥
-  unfolding Agreement entries due runEntries effect after value responseOn response
+  unfolding Agreement entries due runEntries effect after value responseOn response valueResponse
   fails A =
       let G = A 2 2 (cB ∷ []) [] (cB ∷ []) [] cA cA history₂ history₂ refl refl .answers (cB .entry ∷ []) [] (cA .entry) refl in
-      let e : responded 2 0 ≡ responded 2 9 = G .only (List·Memᴰ·tail first) got refl in
+      let e : responded 2 (pos 0) ≡ responded 2 (pos 9) = G .only (List·Memᴰ·tail first) got refl in
       let z : _≡_ {A = ℕ} 0 9 = cc e in
       absurd (omega arith)
 

@@ -48,7 +48,7 @@ opens keys n l a = rw (a, eq-eqb _ _ l)
 -- ---- a replica in range stays so
 step-sound : (r : Replica) (c : Call) → Sound r → Sound (stepOf r c .after .replica)
 unfolding stepOf receiveStep
-step-sound r (invoke i kind cell amount room) s = invoke-sound r kind cell amount room s
+step-sound r (invoke i kind cell amount last room) s = invoke-sound r kind cell amount last room s
 step-sound r (receive i m room) s =
     cond-cases (λ (x : Step). Sound (x .after .replica)) (isReply m) (replyStep r m room) (record { after = broadcastStep r m; wrote = [] })
     (λ e. reply-sound r m room s) (λ e. broadcast-sound r m s)
@@ -57,15 +57,15 @@ pub sound-after : (r : Replica) (c : Call) {s : Step} → Sound r → stepOf r c
 sound-after r c S e = subst (λ (s : Step). Sound (s .after .replica)) e (step-sound r c S)
 
 -- ---- an operation made
-abbrev pub madeEvent : ℕ → Replica → ℕ → ℕ → ℕ → Logged
-madeEvent i r kind cell amount = record { call = invoke i kind cell amount 43; before = r; step = invokedStep r kind cell amount }
+abbrev pub madeEvent : ℕ → Replica → ℕ → ℕ → ℕ → ℕ → Logged
+madeEvent i r kind cell amount last = record { call = invoke i kind cell amount last 43; before = r; step = invokedStep r kind cell amount last }
 
-pub made-step : (i : ℕ) (r : Replica) (kind cell amount : ℕ) → invokeNo r kind cell amount 43 ≡ 0 → stepOf r (invoke i kind cell amount 43) ≡ madeEvent i r kind cell amount .step
+pub made-step : (i : ℕ) (r : Replica) (kind cell amount last : ℕ) → invokeNo r kind cell amount last 43 ≡ 0 → stepOf r (invoke i kind cell amount last 43) ≡ madeEvent i r kind cell amount last .step
 unfolding stepOf
-made-step i r kind cell amount z = invoke-done r kind cell amount 43 z
+made-step i r kind cell amount last z = invoke-done r kind cell amount last 43 z
 
 module _ {P : List Logged → Carried → Type 0} {Ss : List (List ℕ)} {older : List Logged} where
-  pub made-shows : {i : ℕ} {r : Replica} {kind cell amount : ℕ} → Shows P Ss older (madeEvent i r kind cell amount)
+  pub made-shows : {i : ℕ} {r : Replica} {kind cell amount last : ℕ} → Shows P Ss older (madeEvent i r kind cell amount last)
   unfolding strings tags taken
   made-shows = record { ss = []; strs = refl; known = none; xs = []; tgs = refl; each = none }
 

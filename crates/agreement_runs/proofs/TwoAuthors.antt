@@ -27,12 +27,12 @@ use Rattle.client_reply.specs.Reply.{chainAfter, repliedReplica}
 use Rattle.agreement_runs.proofs.Plays.{commitBy, commit-fits}
 use Rattle.agreement_runs.proofs.Replies.{itemBy, item-fits}
 
--- client 1 sets cell 0 to 7, client 2 reads it
+-- client 1 sets cell 0 to 7 and its temperature to −5, client 2 asks for the temperature
 abbrev pub o₁ : Operation
-o₁ = record { count = 1; kind = 4; cell = 0; amount = 7; last = 0 }
+o₁ = record { count = 1; kind = 5; cell = 0; amount = 7; last = 251 }
 
 abbrev pub o₂ : Operation
-o₂ = record { count = 1; kind = 3; cell = 0; amount = 0; last = 0 }
+o₂ = record { count = 1; kind = 6; cell = 0; amount = 0; last = 0 }
 
 -- the chain
 abbrev pub S₁ : List ℕ
@@ -47,16 +47,16 @@ S₂ = chainString v₁ o₂ 2 2
 abbrev pub v₂ : List ℕ
 v₂ = linkValue v₁ o₂ 2 2
 
-digest₁ : getD (sha256 S₁) 0 0 ≡ 105
+digest₁ : getD (sha256 S₁) 0 0 ≡ 37
 unfolding kTable roundOf roundAt addState bigEndian wordAt padding pad wordsAt blockCount initial nextWord schedule rounds compressOf hashFrom bytesOf sha256 chainString opBytes
 digest₁ = refl
 
-digest₂ : getD (sha256 S₂) 0 0 ≡ 237
+digest₂ : getD (sha256 S₂) 0 0 ≡ 178
 unfolding kTable roundOf roundAt addState bigEndian wordAt padding pad wordsAt blockCount initial nextWord schedule rounds compressOf hashFrom bytesOf sha256 chainString opBytes linkValue
 digest₂ = refl
 
 pub distinct-digests : sha256 S₁ ≡ sha256 S₂ → ⊥
-distinct-digests e = (let z : _≡_ {A = ℕ} 105 237 = sym digest₁ ∙ ap (λ (d : List ℕ). getD d 0 0) e ∙ digest₂ in absurd (omega arith))
+distinct-digests e = (let z : _≡_ {A = ℕ} 37 178 = sym digest₁ ∙ ap (λ (d : List ℕ). getD d 0 0) e ∙ digest₂ in absurd (omega arith))
 
 module _ (keys : List ℕ) where
   abbrev pub i₁ : Item

@@ -1,11 +1,13 @@
 -- Not empty: with any 256 key bytes, a run that is not let off, in which clients 1 and 2 make an operation each, the second one is aborted,
--- and both clients confirm both.
+-- and both clients confirm both. (The first one sets a temperature below 0, for which the second one asks: document 02, Q-2.)
 use Prim.Native.Nat.{ℕ}
 use mathlib.Core.Path.{_≡_, refl, _∙_, ap}
 use mathlib.Core.List.{List, [], _∷_, map, List·Memᴰ, List·Memᴰ·head, List·Memᴰ·tail}
 use mathlib.Core.Bool.{true, false}
+use lib.IntN.{pos}
 use lib.ListN.{length, replicate}
-use Rattle.operation.specs.Operation.{value, after, effect}
+use Rattle.operation.specs.declared.Cells.{Cells}
+use Rattle.operation.specs.Operation.{value, temp, after, effect}
 use Rattle.message.specs.Message.{invokeString, commitString, chainString, replyBytes, broadcastBytes}
 use Rattle.round_trips.proofs.Messages.{broadcast-read}
 use Rattle.verify.specs.Verify.{invokeTag, linkValue}
@@ -23,9 +25,9 @@ use Rattle.agreement_runs.proofs.TwoAuthorsSteps.{sa₁, sb₁, passes�
 
 abbrev calls : List ℕ → List Call
 calls keys =
-    invoke 1 4 0 7 43
+    invoke 1 5 0 7 251 43
     ∷ receive 1 (replyBytes (i₁ keys ∷ [])) 80
-    ∷ invoke 2 3 0 0 43
+    ∷ invoke 2 6 0 0 0 43
     ∷ receive 2 (replyBytes (i₁ keys ∷ i₂ keys ∷ [])) 80
     ∷ receive 1 (broadcastBytes (k₁ keys)) 0
     ∷ receive 2 (broadcastBytes (k₁ keys)) 0
@@ -34,16 +36,16 @@ calls keys =
     ∷ []
 
 abbrev e₁ : List ℕ → Logged
-e₁ keys = madeEvent 1 (a₀ keys) 4 0 7
+e₁ keys = madeEvent 1 (a₀ keys) 5 0 7 251
 
 abbrev e₂ : List ℕ → Logged
-e₂ keys = replyEvent 1 (a₁ keys) (i₁ keys ∷ []) 1 false 1
+e₂ keys = replyEvent 1 (a₁ keys) (i₁ keys ∷ []) 1 false (pos 1)
 
 abbrev e₃ : List ℕ → Logged
-e₃ keys = madeEvent 2 (b₀ keys) 3 0 0
+e₃ keys = madeEvent 2 (b₀ keys) 6 0 0 0
 
 abbrev e₄ : List ℕ → Logged
-e₄ keys = replyEvent 2 (b₁ keys) (i₁ keys ∷ i₂ keys ∷ []) 2 true 0
+e₄ keys = replyEvent 2 (b₁ keys) (i₁ keys ∷ i₂ keys ∷ []) 2 true (pos 0)
 
 abbrev log : List ℕ → List Logged
 log keys =
@@ -54,11 +56,14 @@ log keys =
     ∷ confirmEvent 2 (b₃ keys) (k₂ keys)
     ∷ []
 
--- what both clients confirm
+-- what both clients confirm, and their cells after each: the temperature is −5
+abbrev pub cellsAfter : Cells
+cellsAfter = record { values = 7 ∷ replicate 15 0; temps = 251 ∷ replicate 15 0 }
+
 abbrev pub both : List Confirmation
 both =
-    record { entry = record { op = o₁; author = 1; seq = 1; status = 1 }; cells = 7 ∷ replicate 15 0 }
-    ∷ record { entry = record { op = o₂; author = 2; seq = 2; status = 0 }; cells = 7 ∷ replicate 15 0 }
+    record { entry = record { op = o₁; author = 1; seq = 1; status = 1 }; cells = cellsAfter }
+    ∷ record { entry = record { op = o₂; author = 2; seq = 2; status = 0 }; cells = cellsAfter }
     ∷ []
 
 module _ (keys : List ℕ) (L : length keys ≡ 256) where
@@ -81,11 +86,11 @@ module _ (keys : List ℕ) (L : length keys ≡ 256) where
   -- ---- who tagged what
   made₁ : (older : List Logged) → List·Memᴰ (e₁ keys) older → Tagged keys older 1 (invokeString o₁ 1)
   unfolding caller invokeTag tagBy
-  made₁ older m = record { event = e₁ keys; mem = m; by = refl; wrote = made-wrote (e₁ keys) 4 0 7 refl }
+  made₁ older m = record { event = e₁ keys; mem = m; by = refl; wrote = made-wrote (e₁ keys) 5 0 7 251 refl }
 
   made₂ : (older : List Logged) → List·Memᴰ (e₃ keys) older → Tagged keys older 2 (invokeString o₂ 2)
   unfolding caller invokeTag tagBy
-  made₂ older m = record { event = e₃ keys; mem = m; by = refl; wrote = made-wrote (e₃ keys) 3 0 0 refl }
+  made₂ older m = record { event = e₃ keys; mem = m; by = refl; wrote = made-wrote (e₃ keys) 6 0 0 0 refl }
 
   committed₁ : (older : List Logged) → List·Memᴰ (e₂ keys) older → Tagged keys older 1 (commitString o₁ 1 1 v₁ 1)
   unfolding caller
@@ -109,10 +114,10 @@ module _ (keys : List ℕ) (L : length keys ≡ 256) where
   unfolding repliedReplica
   good =
       next made-shows
-      (next (one-shows (a₁ keys) (i₁ keys) (f₁ keys) (passes₁ keys L) (sa₁ keys L .sized) 1 false 1 (is-first (a₁-zero keys L)) (made₁ _ first))
+      (next (one-shows (a₁ keys) (i₁ keys) (f₁ keys) (passes₁ keys L) (sa₁ keys L .sized) 1 false (pos 1) (is-first (a₁-zero keys L)) (made₁ _ first))
       (next made-shows
       (next
-      (two-shows (b₁ keys) (i₁ keys) (i₂ keys) (f₁ keys) (f₂ keys) (passes₂ keys L) (sb₁ keys L .sized) 2 true 0
+      (two-shows (b₁ keys) (i₁ keys) (i₂ keys) (f₁ keys) (f₂ keys) (passes₂ keys L) (sb₁ keys L .sized) 2 true (pos 0)
       (is-first (b₁-zero keys L))
       (is-second (ap (λ (v : List ℕ). linkValue v o₁ 1 1) (b₁-zero keys L)))
       (made₁ _ first) (made₂ _ (List·Memᴰ·tail (List·Memᴰ·tail first))))
@@ -124,23 +129,23 @@ module _ (keys : List ℕ) (L : length keys ≡ 256) where
 
   -- ---- what each client confirmed
   history₁ : history 1 (log keys) ≡ both
-  unfolding history allOf caller messageOf taken confirmedReplica repliedReplica effect after value
+  unfolding history allOf caller messageOf taken confirmedReplica repliedReplica effect after value temp
   history₁ =
-      (λ t. record { entry = entryOf (broadcast-read (k₁ keys) (g₁ keys) t); cells = 7 ∷ replicate 15 0 }
-      ∷ record { entry = entryOf (broadcast-read (k₂ keys) (g₂ keys) t); cells = 7 ∷ replicate 15 0 } ∷ [])
+      (λ t. record { entry = entryOf (broadcast-read (k₁ keys) (g₁ keys) t); cells = cellsAfter }
+      ∷ record { entry = entryOf (broadcast-read (k₂ keys) (g₂ keys) t); cells = cellsAfter } ∷ [])
 
   history₂ : history 2 (log keys) ≡ both
-  unfolding history allOf caller messageOf taken confirmedReplica repliedReplica effect after value
+  unfolding history allOf caller messageOf taken confirmedReplica repliedReplica effect after value temp
   history₂ =
-      (λ t. record { entry = entryOf (broadcast-read (k₁ keys) (g₁ keys) t); cells = 7 ∷ replicate 15 0 }
-      ∷ record { entry = entryOf (broadcast-read (k₂ keys) (g₂ keys) t); cells = 7 ∷ replicate 15 0 } ∷ [])
+      (λ t. record { entry = entryOf (broadcast-read (k₁ keys) (g₁ keys) t); cells = cellsAfter }
+      ∷ record { entry = entryOf (broadcast-read (k₂ keys) (g₂ keys) t); cells = cellsAfter } ∷ [])
 
 pub record Witness (keys : List ℕ) : Type 0 where
   pub calls : List Call
   pub fine : LetOff keys (logOf keys calls) → ⊥
   -- what each call told: client 1 got 1 for its operation at place 1, client 2 "aside" for its own at place 2
   pub told : map (λ e. says e) (logOf keys calls)
-      ≡ invoked 1 ∷ responded 1 1 ∷ invoked 1 ∷ aborted 2 ∷ confirmed 1 1 ∷ confirmed 1 1 ∷ confirmed 2 0 ∷ confirmed 2 0 ∷ []
+      ≡ invoked 1 ∷ responded 1 (pos 1) ∷ invoked 1 ∷ aborted 2 ∷ confirmed 1 1 ∷ confirmed 1 1 ∷ confirmed 2 0 ∷ confirmed 2 0 ∷ []
   pub one : history 1 (logOf keys calls) ≡ both
   pub two : history 2 (logOf keys calls) ≡ both
 

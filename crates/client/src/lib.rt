@@ -16,11 +16,11 @@ pub fn open(number: u8, keys: &[u8]) -> Stepped
 }
 
 // Invokes an operation; the invoke goes to the front of `out`.
-pub fn invoke(r: Replica, kind: u8, cell: u8, amount: u8, out: &mut [u8]) -> Stepped
-    ensures { λ q. ⌜ (afterOf q ≡ invokeStep r kind cell amount (length (now (out .entry))) .after)
-        × (now (out .exit) ≡ over (invokeStep r kind cell amount (length (now (out .entry))) .wrote) (now (out .entry))) ⌝ }
+pub fn invoke(r: Replica, kind: u8, cell: u8, amount: u8, last: u8, out: &mut [u8]) -> Stepped
+    ensures { λ q. ⌜ (afterOf q ≡ invokeStep r kind cell amount last (length (now (out .entry))) .after)
+        × (now (out .exit) ≡ over (invokeStep r kind cell amount last (length (now (out .entry))) .wrote) (now (out .entry))) ⌝ }
 {
-    client_make::invoke(r, kind, cell, amount, out)
+    client_make::invoke(r, kind, cell, amount, last, out)
 }
 
 // Takes a message from the server; the commit that a reply calls for goes to the front of `out`.

@@ -3,12 +3,13 @@ use Prim.Native.Nat.{ℕ}
 use mathlib.Core.Path.{_≡_, refl, ap}
 use mathlib.Core.List.{List, [], _∷_, _++_, map}
 use Rattle.operation.specs.declared.Operation.{Operation}
+use Rattle.operation.specs.declared.Cells.{Cells}
 use Rattle.operation.specs.Operation.{Response, after, responseOn, runAll}
 use Rattle.conflict.specs.Conflict.{own, responses}
 use Rattle.replica.specs.declared.Replica.{Replica}
 use Rattle.client_reply.specs.Reply.{earlier, lastResponse}
 
-pub last-alone : (es : List Operation) (e : Operation) (cells : List ℕ)
+pub last-alone : (es : List Operation) (e : Operation) (cells : Cells)
     → responses cells (map own (es ++ (e ∷ []))) ≡ responses cells (map own es) ++ (responseOn e (runAll es cells) ∷ [])
 unfolding responses runAll
 last-alone [] e cells = refl

@@ -9,7 +9,7 @@ use native.Mathlib.Omega.{arith}
 use borrow.Author.Tests.{eqb-true, ne-eqb}
 use Rattle.slices.proofs.Laws.{same-yes}
 use Rattle.operation.specs.Operation.{effect}
-use Rattle.operation.proofs.Laws.{after-length}
+use Rattle.operation.proofs.Temps.{Sixteen, effect-sixteen, effect-temps}
 use Rattle.message.specs.declared.Commit.{Commit}
 use Rattle.message.specs.Message.{commitOf}
 use Rattle.verify.specs.Verify.{commitTag, commitTagOk, linkValue}
@@ -90,10 +90,9 @@ module _ (r : Replica) (k : Commit) where
   unfolding confirmedReplica
   statuses-length h = confirm-statuses-length (r .confirmed) (r .statuses) h
 
-  pub cells-length : length (confirmedReplica r k .cells) ≡ length (r .cells)
-  unfolding confirmedReplica effect
-  cells-length =
-      cond-cases (λ (s : List ℕ). length s ≡ length (r .cells)) (eqb (k .status) 1) _ _ (λ e. after-length (k .op) (r .cells)) (λ e. refl)
+  pub cells-length : Sixteen (r .cells) → Sixteen (confirmedReplica r k .cells)
+  unfolding confirmedReplica
+  cells-length h = effect-sixteen (eqb (k .status) 1) (k .op) (r .cells) h
 
 -- ---- the replica
 module _ (r : Replica) (m : List ℕ) (e : broadcastNo r m ≡ 0) where
@@ -117,6 +116,7 @@ module _ (r : Replica) (m : List ℕ) (e : broadcastNo r m ≡ 0) where
         statuses = confirm-statuses-ok (r .confirmed) (r .statuses) (g .statuses);
         unused = confirm-statuses-unused (r .confirmed) (r .statuses) (r .held) (g .unused);
         rest = confirm-unused (r .confirmed) (nextValue r k) (r .chain) (next-length r k l) l (r .held) (g .rest);
+        temps = effect-temps (eqb (k .status) 1) (k .op) (r .cells) (y .fine .op) (g .temps);
       })
 
   pub broadcast-sized : Sized r → Sized (confirmedReplica r k)
@@ -125,7 +125,7 @@ module _ (r : Replica) (m : List ℕ) (e : broadcastNo r m ≡ 0) where
         keys = ap length (advanced r k .keys) ∙ s .keys;
         chain = chain-length r k (s .chain);
         statuses = statuses-length r k (s .statuses);
-        cells = cells-length r k ∙ s .cells;
+        cells = cells-length r k (s .cells);
       }
 
 -- ---- the call

@@ -19,6 +19,6 @@ receive-sound r m room s =
 
 -- invoking and taking a message (a successful opening: `open-sound`; a refused one leaves the all-zero replica, which check 8 refuses)
 pub calls-sound : (r : Replica) → Sound r
-    → ((kind cell amount room : ℕ) → Sound (invokeStep r kind cell amount room .after .replica))
+    → ((kind cell amount last room : ℕ) → Sound (invokeStep r kind cell amount last room .after .replica))
     × ((m : List ℕ) (room : ℕ) → Sound (receiveStep r m room .after .replica))
-calls-sound r s = (λ kind cell amount room. invoke-sound r kind cell amount room s, λ m room. receive-sound r m room s)
+calls-sound r s = (λ kind cell amount last room. invoke-sound r kind cell amount last room s, λ m room. receive-sound r m room s)

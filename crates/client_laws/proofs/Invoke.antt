@@ -15,6 +15,7 @@ use Rattle.replica.proofs.Places.{no-values-length, none-ok, none-status, none-
 use Rattle.checks.proofs.Laws.{all-yes, and-yes, call-cases}
 use Rattle.replica.proofs.Laws.{ranged, in-range, Sized, Sound, stop-sound}
 use Rattle.client_open.specs.Open.{openNo}
+use Rattle.operation.proofs.Temps.{zero-temps}
 use Rattle.client_invoke.specs.Invoke.{invokeNo, newOp, invokedReplica, invokeMessage, invokeStep}
 use Rattle.client_invoke.proofs.Laws.{invoke-yes}
 
@@ -47,30 +48,31 @@ module _ (n : ℕ) (keys : List ℕ) (e : openNo n keys ≡ 0) where
         statuses = none-ok;
         unused = none-status;
         rest = none-held;
+        temps = zero-temps;
       })
 
   pub open-sized : Sized (freshReplica n keys)
-  open-sized = record { keys = open-yes .long; chain = no-values-length; statuses = refl; cells = refl }
+  open-sized = record { keys = open-yes .long; chain = no-values-length; statuses = refl; cells = (refl, refl) }
 
   pub open-sound : Sound (freshReplica n keys)
   open-sound = record { range = open-in-range; sized = open-sized }
 
 -- ---- invoking
-module _ (r : Replica) (kind cell amount room : ℕ) (e : invokeNo r kind cell amount room ≡ 0) where
+module _ (r : Replica) (kind cell amount last room : ℕ) (e : invokeNo r kind cell amount last room ≡ 0) where
   -- the new current operation is allowed
-  pub invoke-current : opOk (newOp r kind cell amount) ≡ true
+  pub invoke-current : opOk (newOp r kind cell amount last) ≡ true
   unfolding opOk
   invoke-current =
-      let y = invoke-yes r kind cell amount room e in
+      let y = invoke-yes r kind cell amount last room e in
       let a : 1 ≤ r .count + 1 = omega arith in
       let b : r .count + 1 ≤ 1000000 = omega (arith, y .below) in
       rw (le-leb _ _ a, le-leb _ _ b, y .fine)
 
-  pub invoke-in-range : inRange (invokedReplica r (newOp r kind cell amount)) ≡ true
+  pub invoke-in-range : inRange (invokedReplica r (newOp r kind cell amount last)) ≡ true
   invoke-in-range =
-      let y = invoke-yes r kind cell amount room e in
+      let y = invoke-yes r kind cell amount last room e in
       let g = ranged r (y .range) in
-      in-range (invokedReplica r (newOp r kind cell amount)) (record {
+      in-range (invokedReplica r (newOp r kind cell amount last)) (record {
         low = g .low;
         high = g .high;
         count = omega (arith, y .below);
@@ -78,31 +80,32 @@ module _ (r : Replica) (kind cell amount room : ℕ) (e : invokeNo r kind cell a
         held = g .held;
         last = g .last;
         mark = g .mark;
-        current = rw invoke-current (or-true (noCurrent (newOp r kind cell amount)));
+        current = rw invoke-current (or-true (noCurrent (newOp r kind cell amount last)));
         statuses = g .statuses;
         unused = g .unused;
         rest = g .rest;
+        temps = g .temps;
       })
 
-  pub invoke-sized : Sized r → Sized (invokedReplica r (newOp r kind cell amount))
+  pub invoke-sized : Sized r → Sized (invokedReplica r (newOp r kind cell amount last))
   invoke-sized s = record { keys = s .keys; chain = s .chain; statuses = s .statuses; cells = s .cells }
 
 -- ---- the call
-module _ (r : Replica) (kind cell amount room : ℕ) where
-  pub invoke-done : invokeNo r kind cell amount room ≡ 0
-      → invokeStep r kind cell amount room
+module _ (r : Replica) (kind cell amount last room : ℕ) where
+  pub invoke-done : invokeNo r kind cell amount last room ≡ 0
+      → invokeStep r kind cell amount last room
       ≡ record {
-        after = record { replica = invokedReplica r (newOp r kind cell amount); says = invoked (r .count + 1) };
-        wrote = invokeMessage r (newOp r kind cell amount);
+        after = record { replica = invokedReplica r (newOp r kind cell amount last); says = invoked (r .count + 1) };
+        wrote = invokeMessage r (newOp r kind cell amount last);
       }
   unfolding invokeStep
   invoke-done e = rw e
 
 -- it keeps both, whatever it is given
-pub invoke-sound : (r : Replica) (kind cell amount room : ℕ) → Sound r → Sound (invokeStep r kind cell amount room .after .replica)
+pub invoke-sound : (r : Replica) (kind cell amount last room : ℕ) → Sound r → Sound (invokeStep r kind cell amount last room .after .replica)
 unfolding invokeStep
-invoke-sound r kind cell amount room s =
-    let n = invokeNo r kind cell amount room in
+invoke-sound r kind cell amount last room s =
+    let n = invokeNo r kind cell amount last room in
     call-cases (λ (x : Step). Sound (x .after .replica)) n _ (stopStep r n)
-    (λ z. record { range = invoke-in-range r kind cell amount room z; sized = invoke-sized r kind cell amount room z (s .sized) })
+    (λ z. record { range = invoke-in-range r kind cell amount last room z; sized = invoke-sized r kind cell amount last room z (s .sized) })
     (stop-sound r n s)

@@ -26,11 +26,11 @@ pub yes-append : (xs ys : List (Bool × ℕ)) → Yes xs → Yes ys → Yes (xs 
 yes-append [] ys y z = z
 yes-append (x ∷ xs) ys y z = (y .0, yes-append xs ys (y .1) z)
 
-pub invoke-passes : (r : Replica) (kind cell amount room : ℕ) → inRange r ≡ true → r .halt ≡ 0 → noCurrent (r .current) ≡ true
-    → allowed kind cell amount 0 ≡ true → r .count < 1000000 → 43 ≤ room → invokeNo r kind cell amount room ≡ 0
+pub invoke-passes : (r : Replica) (kind cell amount last room : ℕ) → inRange r ≡ true → r .halt ≡ 0 → noCurrent (r .current) ≡ true
+    → allowed kind cell amount last ≡ true → r .count < 1000000 → 43 ≤ room → invokeNo r kind cell amount last room ≡ 0
 unfolding invokeNo
-invoke-passes r kind cell amount room a b c d e f =
-    yes-first (invokeChecks r kind cell amount room) (a, (eq-eqb (r .halt) 0 b, (c, (d, (lt-ltb (r .count) 1000000 e, (le-leb 43 room f, tt))))))
+invoke-passes r kind cell amount last room a b c d e f =
+    yes-first (invokeChecks r kind cell amount last room) (a, (eq-eqb (r .halt) 0 b, (c, (d, (lt-ltb (r .count) 1000000 e, (le-leb 43 room f, tt))))))
 
 items-pass : (r : Replica) (m : List ℕ) (n : ℕ) → ((k : ℕ) → k < n → Yes (itemChecks r (replyCount m) k (replyItem m k))) → Yes (itemsChecks r m n)
 unfolding itemsChecks

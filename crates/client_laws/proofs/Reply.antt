@@ -129,6 +129,7 @@ module _ (r : Replica) (m : List ℕ) (room : ℕ) (e : replyNo r m room ≡ 0) 
         rest =
             unused-kept (r .confirmed) (r .held) m (r .chain) l n h few hr
             ∙ unused-more (r .confirmed) (r .held) h (r .chain) hl (g .rest);
+        temps = g .temps;
       })
 
   pub reply-sized : Sized r → Sized next
@@ -141,7 +142,7 @@ module _ (r : Replica) (m : List ℕ) (room : ℕ) (e : replyNo r m room ≡ 0) 
             ap length (replied-chain r (chainAfter r m) (replyCount m) (isAborted r m))
             ∙ chain-length (r .confirmed) (r .held) m (r .chain) l (replyCount m) (formed .few);
         statuses = statuses-length r (chainAfter r m) (replyCount m) (isAborted r m) ∙ s .statuses;
-        cells = ap length (p .cells) ∙ s .cells;
+        cells = rw (p .cells) (s .cells);
       }
 
 -- ---- the call

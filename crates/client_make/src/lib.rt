@@ -40,11 +40,11 @@ fn write_own_invoke(r: Replica, e: Operation, out: &mut [u8])
 }
 
 // Invokes an operation (document 01: making an entry).
-pub fn invoke(r: Replica, kind: u8, cell: u8, amount: u8, out: &mut [u8]) -> Stepped
-    ensures { λ q. ⌜ (afterOf q ≡ invokeStep r kind cell amount (length (now (out .entry))) .after)
-        × (now (out .exit) ≡ over (invokeStep r kind cell amount (length (now (out .entry))) .wrote) (now (out .entry))) ⌝ }
+pub fn invoke(r: Replica, kind: u8, cell: u8, amount: u8, last: u8, out: &mut [u8]) -> Stepped
+    ensures { λ q. ⌜ (afterOf q ≡ invokeStep r kind cell amount last (length (now (out .entry))) .after)
+        × (now (out .exit) ≡ over (invokeStep r kind cell amount last (length (now (out .entry))) .wrote) (now (out .entry))) ⌝ }
 {
-    let no = client_invoke::invoke_check(r, kind, cell, amount, out.len());
+    let no = client_invoke::invoke_check(r, kind, cell, amount, last, out.len());
     if no != 0 {
         return replica::stopped(r, no);
     }
@@ -54,7 +54,7 @@ pub fn invoke(r: Replica, kind: u8, cell: u8, amount: u8, out: &mut [u8]) -> Ste
         kind,
         cell,
         amount,
-        last: 0,
+        last,
     };
     write_own_invoke(r, e, out);
     let after = invoked_replica(r, e);

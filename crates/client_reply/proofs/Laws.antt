@@ -11,7 +11,7 @@ use native.Mathlib.Numerals.{add-one}
 use borrow.Author.Tests.{eq-eqb, ne-eqb}
 use Rattle.slices.specs.Bytes.{bigEndian}
 use Rattle.operation.specs.declared.Operation.{Operation}
-use Rattle.operation.specs.Operation.{opBytes, responseOn, runAll}
+use Rattle.operation.specs.Operation.{Response, opBytes, responseOn, runAll}
 use Rattle.conflict.specs.Conflict.{conflicts}
 use Rattle.message.specs.declared.Item.{Item}
 use Rattle.message.specs.Message.{replyCount, replyItem, commitString, commitBytes}
@@ -64,7 +64,7 @@ module _ (r : Replica) (m out : List ℕ) where
   unfolding replyStep
   reply-stops e = (rw e, rw e)
 
-  pub reply-goes : replyNo r m (length out) ≡ 0 → (chain : List ℕ) (a : Bool) (x : ℕ) → chain ≡ chainAfter r m → a ≡ isAborted r m → x ≡ lastResponse r m
+  pub reply-goes : replyNo r m (length out) ≡ 0 → (chain : List ℕ) (a : Bool) (x : Response) → chain ≡ chainAfter r m → a ≡ isAborted r m → x ≡ lastResponse r m
       → length (commitMessage r chain (replyCount m) a) ≡ 80
       → (record { replica = repliedReplica r chain (replyCount m) a; says = saysOf a x (lastSeq r m) } ≡ step .after)
       × (commitMessage r chain (replyCount m) a ++ drop 80 out ≡ over (step .wrote) out)

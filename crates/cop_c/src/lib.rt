@@ -40,13 +40,14 @@ pub extern "C" fn cop_invoke(
     kind: u8,
     cell: u8,
     amount: u8,
+    last: u8,
     out: &mut [u8],
 ) -> Said
-    ensures { λ q. ⌜ (now (r .exit) ≡ invokeStep (now (r .entry)) kind cell amount (length (now (out .entry))) .after .replica)
-        × (q ≡ said (invokeStep (now (r .entry)) kind cell amount (length (now (out .entry))) .after .says))
-        × (now (out .exit) ≡ over (invokeStep (now (r .entry)) kind cell amount (length (now (out .entry))) .wrote) (now (out .entry))) ⌝ }
+    ensures { λ q. ⌜ (now (r .exit) ≡ invokeStep (now (r .entry)) kind cell amount last (length (now (out .entry))) .after .replica)
+        × (q ≡ said (invokeStep (now (r .entry)) kind cell amount last (length (now (out .entry))) .after .says))
+        × (now (out .exit) ≡ over (invokeStep (now (r .entry)) kind cell amount last (length (now (out .entry))) .wrote) (now (out .entry))) ⌝ }
 {
-    cop_said::client_said(client_mut::invoke(r, kind, cell, amount, out))
+    cop_said::client_said(client_mut::invoke(r, kind, cell, amount, last, out))
 }
 
 // Takes a message from the server on the lent replica; the commit that a reply calls for goes to the front of `out`.

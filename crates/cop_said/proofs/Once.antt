@@ -4,6 +4,7 @@ use Prim.Native.Nat.{ℕ, zero, suc}
 use mathlib.Core.Path.{_≡_, refl, sym, ap, _∙_}
 use mathlib.Core.Bool.{cond}
 use lib.Dec.{eqb}
+use lib.IntN.{natAbs}
 use Rattle.replica.specs.Outcome.{Told, opened, invoked, responded, aborted, confirmed, refused, halted, told}
 use Rattle.replica.specs.declared.Outcome.{Outcome}
 use Rattle.replica.proofs.Once.{told-once}
@@ -17,7 +18,7 @@ abbrev heard : Said → Told
 heard s =
     cond (eqb (s .what) 0) (refused (s .number)) (cond (eqb (s .what) 1) (halted (s .number)) (cond (eqb (s .what) 2) opened
     (cond (eqb (s .what) 3) (invoked (s .first)) (cond (eqb (s .what) 4) (responded (s .first) (s .second))
-    (cond (eqb (s .what) 5) (aborted (s .first)) (confirmed (s .first) (s .second)))))))
+    (cond (eqb (s .what) 5) (aborted (s .first)) (confirmed (s .first) (natAbs (s .second))))))))
 
 back : (t : Told) → heard (said t) ≡ t
 back opened = refl

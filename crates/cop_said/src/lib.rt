@@ -9,16 +9,16 @@ use server::ServerEvent;
 use server::ServerOutcome;
 
 // `what` tells the outcomes apart. `number` is document 01's: 0 for a success, else a refusal's or a halt's. `first`
-// and `second` are what a success brings.
+// and `second` are what a success brings: `second` is signed, since a response may be negative.
 #[repr(C)]
 pub struct Said {
     pub what: u32,
     pub number: u32,
     pub first: u32,
-    pub second: u32,
+    pub second: i32,
 }
 
-fn success_said(what: u32, first: u32, second: u32) -> Said
+fn success_said(what: u32, first: u32, second: i32) -> Said
     ensures { λ q. ⌜ q ≡ successSaid what first second ⌝ }
 {
     Said {
@@ -57,9 +57,9 @@ fn event_said(d: Event) -> Said
     match d {
         Event::Opened => success_said(2, 0, 0),
         Event::Invoked(count) => success_said(3, count, 0),
-        Event::Responded { seq, response } => success_said(4, seq, response as u32),
+        Event::Responded { seq, response } => success_said(4, seq, response as i32),
         Event::Aborted { seq } => success_said(5, seq, 0),
-        Event::Confirmed { seq, status } => success_said(6, seq, status as u32),
+        Event::Confirmed { seq, status } => success_said(6, seq, status as i32),
     }
 }
 

@@ -13,7 +13,8 @@ pub fn value_after(e: Operation, v: u8) -> u8
 {
     let kind = e.kind;
     let amount = e.amount;
-    if kind == 1 {
+    let adds = kind == 1;
+    if adds {
         if v as u32 + amount as u32 <= 255 {
             v + amount
         } else {

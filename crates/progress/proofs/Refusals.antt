@@ -31,11 +31,11 @@ use Rattle.progress.proofs.Reached.{server-in-range, client}
 
 -- ---- a client as the invariant has it
 module _ (g : Ghost) (sv : Server) (n b : ℕ) (r : Replica) (u : Line) where
-  invoke-among : (d : Line) → Client g sv n b r u d → (kind cell amount room : ℕ) (P : ℕ → Type 0) → P 0 → P 4 → P 5 → P 6 → P 7
-      → P (invokeNo r kind cell amount room)
+  invoke-among : (d : Line) → Client g sv n b r u d → (kind cell amount last room : ℕ) (P : ℕ → Type 0) → P 0 → P 4 → P 5 → P 6 → P 7
+      → P (invokeNo r kind cell amount last room)
   unfolding invokeNo
-  invoke-among d C kind cell amount room P z a e c q =
-      first-among P 0 (invokeChecks r kind cell amount room) z
+  invoke-among d C kind cell amount last room P z a e c q =
+      first-among P 0 (invokeChecks r kind cell amount last room) z
       (inl (C .sound .range), (inl (eq-eqb _ _ (C .clear)), (inr a, (inr e, (inr c, (inr q, tt))))))
 
   module _ (m : List ℕ) (d : Line) (C : Client g sv n b r u (m ∷ d)) (room k : ℕ) where
@@ -98,13 +98,13 @@ module _ (keys : List ℕ) (l : length keys ≡ 256) (n : ℕ) (low : 1 ≤ n) (
   invoke-said room m u q e = invoke-either (w .server) n m room e
 
   -- ---- the client
-  pub client-refused-invoke : (kind cell amount room k : ℕ) → invokeStep (w .replica n) kind cell amount room .after .says ≡ refused k
+  pub client-refused-invoke : (kind cell amount last room k : ℕ) → invokeStep (w .replica n) kind cell amount last room .after .says ≡ refused k
       → (k ≡ 4) ⊎ ((k ≡ 5) ⊎ ((k ≡ 6) ⊎ (k ≡ 7)))
   unfolding invokeStep
-  client-refused-invoke kind cell amount room k h =
+  client-refused-invoke kind cell amount last room k h =
       let r = w .replica n in
-      step-refusal r _ (invokeNo r kind cell amount room) k (λ x. (x ≡ 4) ⊎ ((x ≡ 5) ⊎ ((x ≡ 6) ⊎ (x ≡ 7)))) tt
-      (invoke-among g (w .server) n (w .server .passed) r (w .up n) (w .down n) this kind cell amount room
+      step-refusal r _ (invokeNo r kind cell amount last room) k (λ x. (x ≡ 4) ⊎ ((x ≡ 5) ⊎ ((x ≡ 6) ⊎ (x ≡ 7)))) tt
+      (invoke-among g (w .server) n (w .server .passed) r (w .up n) (w .down n) this kind cell amount last room
       (λ x. (x ≡ 0) ⊎ ((x ≡ 4) ⊎ ((x ≡ 5) ⊎ ((x ≡ 6) ⊎ (x ≡ 7))))) (inl refl) (inr (inl refl)) (inr (inr (inl refl))) (inr (inr (inr (inl refl)))) (inr (inr (inr (inr refl)))))
       h
 

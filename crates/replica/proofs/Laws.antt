@@ -8,7 +8,7 @@ use lib.ListN.{length}
 use native.Mathlib.Omega.{arith}
 use borrow.Author.Tests.{leb-true, le-leb, lt-leb}
 use Rattle.checks.proofs.Laws.{and-yes, cond-cases, every-yes}
-use Rattle.operation.specs.Operation.{opOk}
+use Rattle.operation.specs.Operation.{opOk, tempsOk}
 use Rattle.replica.specs.Outcome.{isHalt, isStop}
 use Rattle.replica.specs.Places.{statusesOk, unusedStatuses, unusedValues}
 use Rattle.replica.specs.Replica.{noCurrent, numbersOk, arraysOk, inRange, After, refuse, haltedAt, halt, stop}
@@ -38,6 +38,7 @@ pub record Ranged (r : Replica) : Type 0 where
   pub statuses : statusesOk (r .statuses) ≡ true
   pub unused : unusedStatuses (r .confirmed) (r .held) (r .statuses) ≡ true
   pub rest : unusedValues (r .confirmed) (r .held) (r .chain) ≡ true
+  pub temps : tempsOk (r .cells) ≡ true
 
 pub ranged : (r : Replica) → inRange r ≡ true → Ranged r
 unfolding inRange numbersOk arraysOk
@@ -58,7 +59,7 @@ ranged r e =
     in
     let a =
     every-yes true
-    (statusesOk (r .statuses) ∷ unusedStatuses (r .confirmed) (r .held) (r .statuses) ∷ unusedValues (r .confirmed) (r .held) (r .chain) ∷ [])
+    (statusesOk (r .statuses) ∷ unusedStatuses (r .confirmed) (r .held) (r .statuses) ∷ unusedValues (r .confirmed) (r .held) (r .chain) ∷ tempsOk (r .cells) ∷ [])
     (y .1 .1 .0)
     .1
     in
@@ -74,6 +75,7 @@ ranged r e =
       statuses = a .0;
       unused = a .1 .0;
       rest = a .1 .1 .0;
+      temps = a .1 .1 .1 .0;
     }
 
 pub in-range : (r : Replica) → Ranged r → inRange r ≡ true
@@ -91,6 +93,7 @@ in-range r g =
       g .statuses,
       g .unused,
       g .rest,
+      g .temps,
     )
 
 -- how long the arrays are
@@ -98,7 +101,7 @@ pub record Sized (r : Replica) : Type 0 where
   pub keys : length (r .keys) ≡ 256
   pub chain : length (r .chain) ≡ 1056
   pub statuses : length (r .statuses) ≡ 32
-  pub cells : length (r .cells) ≡ 16
+  pub cells : (length (r .cells .values) ≡ 16) × (length (r .cells .temps) ≡ 16)
 
 -- check 8 and the lengths, which every call keeps
 pub record Sound (r : Replica) : Type 0 where
@@ -141,6 +144,7 @@ module _ (r : Replica) (n : ℕ) where
         statuses = g .statuses;
         unused = g .unused;
         rest = g .rest;
+        temps = g .temps;
       }))
 
   pub stop-sized : Sized r → Sized (stop r n .replica)

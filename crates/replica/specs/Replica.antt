@@ -6,7 +6,7 @@ use lib.ListN.{length, drop, replicate}
 use lib.Dec.{leb, eqb}
 use Rattle.checks.specs.Checks.{every}
 use Rattle.operation.specs.declared.Operation.{Operation}
-use Rattle.operation.specs.Operation.{maxCount, maxPending, opOk, noOp, zeroCells}
+use Rattle.operation.specs.Operation.{maxCount, maxPending, opOk, noOp, zeroCells, tempsOk}
 use Rattle.message.specs.Layout.{clientCount, maxSeq, keysLength}
 use Rattle.replica.specs.declared.Replica.{Replica}
 use Rattle.replica.specs.declared.Stepped.{Stepped}
@@ -52,13 +52,14 @@ numbersOk r =
     ∷ (eqb (r .halt) 0 || isHalt (r .halt))
     ∷ [])
 
--- "statuses 1, 0 or none"; "unused slots zero"
+-- "statuses 1, 0 or none"; "unused slots zero"; "temperatures from −40 to 85" (document 02, Q-2)
 unfoldable pub arraysOk : Replica → Bool
 arraysOk r =
     every true
     (statusesOk (r .statuses)
     ∷ unusedStatuses (r .confirmed) (r .held) (r .statuses)
     ∷ unusedValues (r .confirmed) (r .held) (r .chain)
+    ∷ tempsOk (r .cells)
     ∷ [])
 
 -- all of it, with "stored entries allowed"

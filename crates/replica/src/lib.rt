@@ -94,6 +94,7 @@ pub fn fresh(number: u8, keys: [u8; message::KEYS_LENGTH]) -> Replica
     ensures { λ r. ⌜ r ≡ freshReplica number keys ⌝ }
 {
     let current = operation::no_op();
+    let cells = operation::zero_cells();
     Replica {
         number,
         keys,
@@ -103,7 +104,7 @@ pub fn fresh(number: u8, keys: [u8; message::KEYS_LENGTH]) -> Replica
         held: 0,
         chain: [0u8; CHAIN_LENGTH],
         statuses: [0u8; operation::MAX_PENDING],
-        cells: [0u8; operation::CELL_COUNT],
+        cells,
         halt: 0,
     }
 }

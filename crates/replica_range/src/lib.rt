@@ -22,11 +22,14 @@ fn arrays_ok(r: Replica) -> bool
 {
     let statuses = r.statuses;
     let chain = r.chain;
+    let cells = r.cells;
+    let temps = cells.temps;
     let held = r.held as usize;
     let s = slices::each_most(&statuses, 2);
     let t = slices::zero_from(&statuses, held);
     let u = slices::zero_from(&chain, (held + 1) * message::DIGEST_LENGTH);
-    s & t & u
+    let w = operation::temps_ok(temps);
+    s & t & u & w
 }
 
 // Check 8: whether each field is in range.

@@ -2,6 +2,7 @@
 ghost use mathlib.Core.Path.{_≡_};
 ghost use Prim.Native.Nat.{_+_, _-_, _*_, _<_, _≤_, min};
 ghost use lib.ListN.{length, drop};
+ghost use lib.IntN.{natAbs};
 ghost use Rattle.slices.specs.Bytes.{put};
 ghost use Rattle.text.specs.Text.{placeOf, numberOf, decimalOf};
 
@@ -49,6 +50,13 @@ pub fn number(s: &[u8], cap: u32) -> u32
         i += 1;
     }
     v
+}
+
+// A number without its sign.
+pub fn magnitude(z: i16) -> u32
+    ensures { λ r. ⌜ r ≡ natAbs z ⌝ }
+{
+    if z < 0 { (-1 - z) as u32 + 1 } else { z as u32 }
 }
 
 // Writes a number into `out` from `at` on, and answers the place after it.

@@ -185,11 +185,12 @@ stoppedMove q s l b =
       invokes = b .invokes;
     }
 
+-- "The trial program's kind 5 has temperature 0" (document 02, Q-2): the last byte is 0
 unfoldable pub invokeMove : Replica → Server → Lines → ℕ → ℕ → ℕ → ℕ → Lent → Move
 invokeMove r s l i kind cell amount b =
-    cond (isSuccess (invokeStep r kind cell amount invokeLength .after .says))
-    (invokedMove (invokeStep r kind cell amount invokeLength) s l i b)
-    (stoppedMove (invokeStep r kind cell amount invokeLength) s l b)
+    cond (isSuccess (invokeStep r kind cell amount 0 invokeLength .after .says))
+    (invokedMove (invokeStep r kind cell amount 0 invokeLength) s l i b)
+    (stoppedMove (invokeStep r kind cell amount 0 invokeLength) s l b)
 
 -- … and a commit, whose broadcasts go to the lines of all
 unfoldable pub repliedMove : Step → Server → Lines → ℕ → Lent → Move

@@ -8,6 +8,7 @@ use lib.Dec.{leb, eqb}
 use lib.ListN.{length, drop}
 use borrow.Author.Tests.{eqb-true}
 use Rattle.operation.specs.declared.Operation.{Operation}
+use Rattle.operation.specs.Operation.{Response}
 use Rattle.message.specs.declared.Item.{Item}
 use Rattle.message.specs.Message.{isInvoke, isReply, marked, invokeBytes, replyCount}
 use Rattle.message.proofs.Laws.{item-length, invoke-item}
@@ -67,9 +68,9 @@ message-form : (r : Replica) (e : Operation) → isInvoke (invokeMessage r e) �
 unfolding invokeMessage
 message-form r e = invoke-form _ (invoke-tag-length (r .keys) e (r .number))
 
-no-current-of : (r : Replica) (kind cell amount room : ℕ) → invokeNo r kind cell amount room ≡ 0 → noCurrent (r .current) ≡ true
+no-current-of : (r : Replica) (kind cell amount last room : ℕ) → invokeNo r kind cell amount last room ≡ 0 → noCurrent (r .current) ≡ true
 unfolding invokeNo
-no-current-of r kind cell amount room z = all-yes 0 (invokeChecks r kind cell amount room) (refl, (refl, (refl, (refl, (refl, (refl, tt)))))) z .1 .1 .1 .0
+no-current-of r kind cell amount last room z = all-yes 0 (invokeChecks r kind cell amount last room) (refl, (refl, (refl, (refl, (refl, (refl, tt)))))) z .1 .1 .1 .0
 
 -- a call that a check stopped
 pub record Stopping (q : Step) : Type 0 where
@@ -91,13 +92,13 @@ stopping r k =
       none = refl;
     }
 
-pub invoke-step : (r : Replica) (kind cell amount room : ℕ) → Invoking r (invokeStep r kind cell amount room) ⊎ Stopping (invokeStep r kind cell amount room)
+pub invoke-step : (r : Replica) (kind cell amount last room : ℕ) → Invoking r (invokeStep r kind cell amount last room) ⊎ Stopping (invokeStep r kind cell amount last room)
 unfolding invokeStep
-invoke-step r kind cell amount room =
-    let x = invokeNo r kind cell amount room in
-    let e = newOp r kind cell amount in
+invoke-step r kind cell amount last room =
+    let x = invokeNo r kind cell amount last room in
+    let e = newOp r kind cell amount last in
     cond-cases (λ (q : Step). Invoking r q ⊎ Stopping q) (eqb x 0) _ (stopStep r x)
-    (λ t. inl (record { idle = no-current-of r kind cell amount room (eqb-true x 0 t); says = (r .count + 1, refl); form = message-form r e; one = written-invoke r e }))
+    (λ t. inl (record { idle = no-current-of r kind cell amount last room (eqb-true x 0 t); says = (r .count + 1, refl); form = message-form r e; one = written-invoke r e }))
     (λ f. inr (stopping r x))
 
 -- ---- a reply is taken
@@ -109,7 +110,7 @@ pub record Replying (q : Step) : Type 0 where
   pub one : written (q .wrote) ≡ q .wrote ∷ []
   pub idle : noCurrent (q .after .replica .current) ≡ true
 
-sent-reply : (a : Bool) (x seq n room : ℕ) → sent n room (saysOf a x seq) ≡ H.serve n room ∷ []
+sent-reply : (a : Bool) (x : Response) (seq n room : ℕ) → sent n room (saysOf a x seq) ≡ H.serve n room ∷ []
 unfolding sent
 sent-reply true x seq n room = refl
 sent-reply false x seq n room = refl

@@ -69,10 +69,10 @@ module _ (rs : List Replica) (l : Lines) (b : Lent) (w : World) (S : Shows rs l 
   n = i + 1
 
   abbrev q : Step
-  q = invokeStep (w .replica n) kind cell amount 43
+  q = invokeStep (w .replica n) kind cell amount 0 43
 
   abbrev a : Action
-  a = H.invoke n kind cell amount 43
+  a = H.invoke n kind cell amount 0 43
 
   called : act w a ≡ calledWorld w n q
   unfolding act invokeIn calledWorld
@@ -137,4 +137,4 @@ module _ (rs : List Replica) (l : Lines) (b : Lent) (w : World) (S : Shows rs l 
       ⊎-elim
       (λ (P : Invoking (w .replica n) q). rw (invoked-yes P) (invoked P))
       (λ (P : Stopping q). rw (P .no-told) (stopped P))
-      (invoke-step (w .replica n) kind cell amount 43)
+      (invoke-step (w .replica n) kind cell amount 0 43)

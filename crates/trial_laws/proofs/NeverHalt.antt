@@ -91,8 +91,8 @@ module _ (w : World) (R : Reached w) where
   invoke-fine : (n kind cell amount : ℕ) → Fine (invokeWord w n kind cell amount)
   unfolding invokeWord toldIn
   invoke-fine n kind cell amount =
-      let t = invokeStep (w .replica n) kind cell amount 43 .after .says in
-      let a = H.invoke n kind cell amount 43 in
+      let t = invokeStep (w .replica n) kind cell amount 0 43 .after .says in
+      let a = H.invoke n kind cell amount 0 43 in
       cond-cases Fine (someFull w 8) full (invokedWord (act w a) n t) (λ e. tt) (λ e. invoked-fine (act w a) n t (calm w R a t refl))
 
   line-fine : (a : Asked) → Fine (lineWord w a)

@@ -57,7 +57,7 @@ deliverActions w n = H.deliver n commitLength ∷ sentBy n (toldIn w (H.deliver 
 -- `I van kind cell amount`; while full, it "does nothing"
 unfoldable pub invokeActions : World → ℕ → ℕ → ℕ → ℕ → List Action
 invokeActions w n kind cell amount =
-    cond (someFull w clientCount) [] (H.invoke n kind cell amount invokeLength ∷ sent n invokeRoom (invokeStep (w .replica n) kind cell amount invokeLength .after .says))
+    cond (someFull w clientCount) [] (H.invoke n kind cell amount 0 invokeLength ∷ sent n invokeRoom (invokeStep (w .replica n) kind cell amount 0 invokeLength .after .says))
 
 unfoldable pub lineActions : World → Asked → List Action
 lineActions w other = []
@@ -77,7 +77,7 @@ invokedWord w n t = cond (isSuccess t) (headWord w n (w .up n)) (toldWord t)
 unfoldable pub invokeWord : World → ℕ → ℕ → ℕ → ℕ → Word
 invokeWord w n kind cell amount =
     cond (someFull w clientCount) full
-    (invokedWord (act w (H.invoke n kind cell amount invokeLength)) n (invokeStep (w .replica n) kind cell amount invokeLength .after .says))
+    (invokedWord (act w (H.invoke n kind cell amount 0 invokeLength)) n (invokeStep (w .replica n) kind cell amount 0 invokeLength .after .says))
 
 unfoldable pub deliverWord : List Told → Word
 deliverWord [] = empty

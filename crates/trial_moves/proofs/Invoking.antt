@@ -22,10 +22,10 @@ put-none : (s : List ℕ) (at : ℕ) → put s at [] ≡ s
 put-none s at = let e : at + 0 ≡ at = omega arith in rw (append-nil (take at s), e) (take-append-drop at s)
 
 -- a call that is no success writes nothing
-stopped-wrote : (r : Replica) (kind cell amount room : ℕ) → isSuccess (invokeStep r kind cell amount room .after .says) ≡ false → invokeStep r kind cell amount room .wrote ≡ []
+stopped-wrote : (r : Replica) (kind cell amount room : ℕ) → isSuccess (invokeStep r kind cell amount 0 room .after .says) ≡ false → invokeStep r kind cell amount 0 room .wrote ≡ []
 unfolding invokeStep
 stopped-wrote r kind cell amount room =
-    call-cases (λ (q : Step). isSuccess (q .after .says) ≡ false → q .wrote ≡ []) (invokeNo r kind cell amount room) _ (stopStep r (invokeNo r kind cell amount room))
+    call-cases (λ (q : Step). isSuccess (q .after .says) ≡ false → q .wrote ≡ []) (invokeNo r kind cell amount 0 room) _ (stopStep r (invokeNo r kind cell amount 0 room))
     (λ e f. absurd (true≢false f))
     (λ f. refl)
 
@@ -34,10 +34,10 @@ module _ (r : Replica) (s : Server) (l : Lines) (i kind cell amount : ℕ) (log 
   part = take k (drop (i * 43) invokes)
 
   abbrev call : Step
-  call = invokeStep r kind cell amount (length part)
+  call = invokeStep r kind cell amount 0 (length part)
 
   abbrev q : Step
-  q = invokeStep r kind cell amount 43
+  q = invokeStep r kind cell amount 0 43
 
   abbrev back : List ℕ
   back = take (i * 43) invokes ++ (y ++ drop k (drop (i * 43) invokes))
@@ -47,7 +47,7 @@ module _ (r : Replica) (s : Server) (l : Lines) (i kind cell amount : ℕ) (log 
     room = part-length invokes (i * 43) k (omega arith)
 
     call-is : call ≡ q
-    call-is = ap (λ (x : ℕ). invokeStep r kind cell amount x) (room ∙ hk)
+    call-is = ap (λ (x : ℕ). invokeStep r kind cell amount 0 x) (room ∙ hk)
 
     after-is : a ≡ q .after
     after-is = ea ∙ ap (λ (x : Step). x .after) call-is

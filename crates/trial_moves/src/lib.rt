@@ -33,7 +33,7 @@ pub fn invoke(
 {
     let at = i * message::INVOKE_LENGTH;
     let end = at + message::INVOKE_LENGTH;
-    let q = client::invoke(r, kind, cell, amount, &mut invokes[at..end]);
+    let q = client::invoke(r, kind, cell, amount, 0, &mut invokes[at..end]);
     let outcome = q.outcome;
     let replica = q.replica;
     if trial_outcome::is_success(outcome) {

@@ -26,6 +26,10 @@ then {z} {x} {y} {t} {u} {at} {p} {q} h a b =
 pub digits-32 : (n : ℕ) → n < 2 ^ 32 → length (decimalOf n) ≤ 10
 digits-32 n h = decimal-most 9 n (omega arith)
 
+-- and 16 bits
+pub digits-16 : (n : ℕ) → n < 65536 → length (decimalOf n) ≤ 5
+digits-16 n h = decimal-most 4 n (omega arith)
+
 -- a line's word, by what is said
 pub said-is :
     (z y : List ℕ) (at q : ℕ) (s t : LineWord) →

@@ -1,6 +1,8 @@
 -- What a line of input gives: a word and its data (document 01, "Cases").
-use Prim.Native.Nat.{ℕ}
+use Prim.Native.Nat.{ℕ, _+_}
 use mathlib.Core.List.{List, [], _∷_, _++_}
+use lib.IntN.{ℤ, pos, negsuc}
+use Rattle.operation.specs.Operation.{Response}
 use Rattle.text.specs.Text.{decimalOf}
 use Rattle.trial_said.specs.declared.LineWord.{LineWord}
 use Rattle.trial_said.specs.declared.LineWord.the-variants as S
@@ -8,7 +10,7 @@ use Rattle.trial_said.specs.declared.LineWord.the-variants as S
 -- "word, data (placed place; answer place answer; aside place; confirm place status; empty; no or halt number)", "bad", "full"
 pub data Word : Type 0 where
   placed : ℕ → Word
-  answer : ℕ → ℕ → Word
+  answer : ℕ → Response → Word
   aside : ℕ → Word
   confirm : ℕ → ℕ → Word
   empty : Word
@@ -33,10 +35,15 @@ wordOf S.Full = full
 abbrev pub datum : ℕ → List ℕ
 datum n = 32 ∷ decimalOf n
 
+-- the same of a signed one: a minus sign before a negative one
+abbrev pub signedDatum : ℤ → List ℕ
+signedDatum (pos n) = datum n
+signedDatum (negsuc n) = 32 ∷ 45 ∷ decimalOf (n + 1)
+
 -- the word in ASCII, and its data
 unfoldable pub wordBytes : Word → List ℕ
 wordBytes (placed p) = (112 ∷ 108 ∷ 97 ∷ 99 ∷ 101 ∷ 100 ∷ []) ++ datum p
-wordBytes (answer p a) = (97 ∷ 110 ∷ 115 ∷ 119 ∷ 101 ∷ 114 ∷ []) ++ datum p ++ datum a
+wordBytes (answer p a) = (97 ∷ 110 ∷ 115 ∷ 119 ∷ 101 ∷ 114 ∷ []) ++ datum p ++ signedDatum a
 wordBytes (aside p) = (97 ∷ 115 ∷ 105 ∷ 100 ∷ 101 ∷ []) ++ datum p
 wordBytes (confirm p s) = (99 ∷ 111 ∷ 110 ∷ 102 ∷ 105 ∷ 114 ∷ 109 ∷ []) ++ datum p ++ datum s
 wordBytes empty = 101 ∷ 109 ∷ 112 ∷ 116 ∷ 121 ∷ []

@@ -4,12 +4,13 @@ ghost use mathlib.Core.List.{_++_};
 ghost use Prim.Native.Nat.{_+_, _≤_};
 ghost use lib.ListN.{length};
 ghost use Rattle.slices.specs.Bytes.{put};
-ghost use Rattle.trial_said.specs.Word.{wordOf, datum, wordBytes};
+ghost use Rattle.trial_said.specs.Word.{wordOf, datum, signedDatum, wordBytes, answer as answerWord};
+use operation::Response;
 
 // What a line of input gives.
 pub enum LineWord {
     Placed(u32),
-    Answer { place: u32, answer: u16 },
+    Answer { place: u32, answer: Response },
     Aside(u32),
     Confirm { place: u32, status: u8 },
     Empty,
@@ -38,6 +39,19 @@ pub fn put_datum(out: &mut [u8], at: usize, n: u32) -> usize
     text::decimal(out, i, n as u64)
 }
 
+// A signed number after a space.
+fn put_signed(out: &mut [u8], at: usize, z: i16) -> usize
+    requires { ⌜ at + 11 ≤ length (now out) ⌝ }
+    ensures { λ r. ⌜ (r ≡ at + length (signedDatum z)) × (now (out .exit) ≡ put (now (out .entry)) at (signedDatum z)) × (r ≤ at + 11) ⌝ }
+{
+    if z < 0 {
+        let i = put_bytes(out, at, b" -");
+        text::decimal(out, i, text::magnitude(z) as u64)
+    } else {
+        put_datum(out, at, text::magnitude(z))
+    }
+}
+
 // A word with one number.
 fn put_one(out: &mut [u8], at: usize, s: &[u8], n: u32) -> usize
     requires { ⌜ at + length (now s) + 11 ≤ length (now out) ⌝ }
@@ -60,6 +74,17 @@ fn put_two(out: &mut [u8], at: usize, s: &[u8], m: u32, n: u32) -> usize
     put_datum(out, i, n)
 }
 
+// An answer with its place.
+fn put_answer(out: &mut [u8], at: usize, place: u32, answer: Response) -> usize
+    requires { ⌜ at + 29 ≤ length (now out) ⌝ }
+    ensures { λ r. ⌜ (r ≡ at + length (wordBytes (answerWord place answer)))
+        × (now (out .exit) ≡ put (now (out .entry)) at (wordBytes (answerWord place answer)))
+        × (r ≤ at + 29) ⌝ }
+{
+    let i = put_one(out, at, b"answer", place);
+    put_signed(out, i, answer)
+}
+
 // The word and its data. 29 bytes are enough.
 pub fn put_said(out: &mut [u8], at: usize, said: LineWord) -> usize
     requires { ⌜ at + 29 ≤ length (now out) ⌝ }
@@ -69,7 +94,7 @@ pub fn put_said(out: &mut [u8], at: usize, said: LineWord) -> usize
 {
     match said {
         LineWord::Placed(p) => put_one(out, at, b"placed", p),
-        LineWord::Answer { place, answer } => put_two(out, at, b"answer", place, answer as u32),
+        LineWord::Answer { place, answer } => put_answer(out, at, place, answer),
         LineWord::Aside(p) => put_one(out, at, b"aside", p),
         LineWord::Confirm { place, status } => put_two(out, at, b"confirm", place, status as u32),
         LineWord::Empty => put_bytes(out, at, b"empty"),

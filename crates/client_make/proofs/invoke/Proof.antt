@@ -16,25 +16,25 @@ use Rattle.client_make.proofs.invoke.Statement.{statement}
 use Rattle.client_make.proofs.invoke.Tie as tie
 
 -- where a check has a no, and where none has
-stopped : (c : tie.Then1) → let a = c .before .before .before .args in eqb (invokeNo (a .r) (a .kind) (a .cell) (a .amount) (length (a .out .now))) 0 ≡ false
+stopped : (c : tie.Then1) → let a = c .before .before .before .args in eqb (invokeNo (a .r) (a .kind) (a .cell) (a .amount) (a .last) (length (a .out .now))) 0 ≡ false
 stopped c = rw (sym (c .before .invoke-check .ensures)) (ne-eqb _ 0 (c .if1 .taken))
 
-passed : (c : tie.Else1) → let a = c .before .before .before .args in invokeNo (a .r) (a .kind) (a .cell) (a .amount) (length (a .out .now)) ≡ 0
+passed : (c : tie.Else1) → let a = c .before .before .before .args in invokeNo (a .r) (a .kind) (a .cell) (a .amount) (a .last) (length (a .out .now)) ≡ 0
 passed c = sym (c .before .invoke-check .ensures) ∙ c .if1 .left
 
-yes : (c : tie.Else1) → let a = c .before .before .before .args in Invoked (a .r) (a .kind) (a .cell) (a .amount) (length (a .out .now))
-yes c = invoke-yes _ _ _ _ _ (passed c)
+yes : (c : tie.Else1) → let a = c .before .before .before .args in Invoked (a .r) (a .kind) (a .cell) (a .amount) (a .last) (length (a .out .now))
+yes c = invoke-yes _ _ _ _ _ _ (passed c)
 
 invoke-check-requires : tie.Need-invoke-check-requires
 invoke-check-requires c κs = search needs
 
 stopped-requires : tie.Need-stopped-requires
-stopped-requires c κs = rw (c .before .invoke-check .ensures) (invoke-stop _ _ _ _ _ (stopped c))
+stopped-requires c κs = rw (c .before .invoke-check .ensures) (invoke-stop _ _ _ _ _ _ (stopped c))
 
 returns : tie.Need-returns
 returns c =
     let a = c .before .before .before .before .args in
-    let l = invoke-stops (a .r) (a .kind) (a .cell) (a .amount) (a .out .now) (stopped (c .before)) in
+    let l = invoke-stops (a .r) (a .kind) (a .cell) (a .amount) (a .last) (a .out .now) (stopped (c .before)) in
     (c .stopped .ensures ∙ rw (c .before .before .invoke-check .ensures) (l .0), l .1)
 
 add-count : tie.Need-add-count
@@ -56,7 +56,7 @@ returns-2 : tie.Need-returns-2
 returns-2 c =
     let k = c .before .before .before .before .before .before in
     let a = k .before .before .before .args in
-    let l = invoke-goes (a .r) (a .kind) (a .cell) (a .amount) (a .out .now) (passed k) in (
+    let l = invoke-goes (a .r) (a .kind) (a .cell) (a .amount) (a .last) (a .out .now) (passed k) in (
       ap (λ (b : Replica). record { replica = b; says = invoked (a .r .count + 1) }) (c .invoked-replica .ensures) ∙ l .0,
       c .before .before .before .write-own-invoke .ensures ∙ l .1,
     )

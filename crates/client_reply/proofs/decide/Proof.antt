@@ -5,6 +5,7 @@ use lib.ListN.{length, take}
 use lib.Seq.{take-set-le}
 use Rattle.operation.specs.Operation.{runAll}
 use Rattle.client_reply.specs.Lists.{lists}
+use mir.Facts.{toZ-ofZ}
 use Rattle.client_reply.proofs.Laws.{take-set-more, aborted-is, response-is}
 use borrow.Author.Needs.{needs}
 use Rattle.client_reply.proofs.decide.Statement.{statement}
@@ -46,7 +47,7 @@ returns c =
     c .before .before .run-all .ensures ∙ ap (λ l. runAll l (a .r .cells)) (take-set-le q own q (a .r .current) (omega arith)) in (
       c .before .conflict .ensures
           ∙ rw (take-set-more own q (a .r .current) h) (aborted-is (a .r) (a .m .now) (a .n) e (lists (s .result)) (s .ensures .0)),
-      c .response-on .ensures ∙ rw ran (response-is (a .r) (a .m .now) (a .n) e (lists (s .result)) (s .ensures .0)),
+      toZ-ofZ {z = c .response-on .result} (record { sfits = c .response-on .ok }) ∙ c .response-on .ensures ∙ rw ran (response-is (a .r) (a .m .now) (a .n) e (lists (s .result)) (s .ensures .0)),
     )
 
 pub decide-spec : {M : Type 1} → statement M

@@ -30,9 +30,12 @@ mul-zero-from c = search needs
 zero-from-requires-2 : tie.Need-zero-from-requires-2
 zero-from-requires-2 c κs = search needs
 
+temps-ok-requires : tie.Need-temps-ok-requires
+temps-ok-requires c κs = search needs
+
 returns : tie.Need-returns
 unfolding arraysOk
-returns c = rw (c .zero-from2 .ensures, c .before .before .zero-from .ensures, c .before .before .before .before .each-most .ensures)
+returns c = rw (c .temps-ok .ensures, c .before .zero-from2 .ensures, c .before .before .before .zero-from .ensures, c .before .before .before .before .before .each-most .ensures)
 
 pub arrays-ok-spec : {M : Type 1} → statement M
 arrays-ok-spec =
@@ -47,4 +50,5 @@ arrays-ok-spec =
     add-zero-from
     mul-zero-from
     zero-from-requires-2
+    temps-ok-requires
     returns)

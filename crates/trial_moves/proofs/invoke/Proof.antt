@@ -54,7 +54,7 @@ returns : tie.Need-returns
 returns c =
     let a = c .before .before .before .before .before .before .before .before .before .before .before .before .before .before .before .before .before .args in
     let q = c .before .before .before .before .before .before .before .before .before .before .before .before .before .invoke in
-    let y : List ℕ = q .last .1 .1 .1 .1 .0 in
+    let y : List ℕ = q .last .1 .1 .1 .1 .1 .0 in
     let k : ℕ = a .i * 43 + 43 - a .i * 43 in
     let hk : a .i * 43 + 43 - a .i * 43 ≡ 43 = omega arith in
     let ly : length y ≡ length (take k (drop (a .i * 43) (a .invokes .now))) = search needs in
@@ -70,7 +70,7 @@ returns-2 : tie.Need-returns-2
 returns-2 c =
     let a = c .before .before .before .before .before .before .before .before .before .before .args in
     let q = c .before .before .before .before .before .before .invoke in
-    let y : List ℕ = q .last .1 .1 .1 .1 .0 in
+    let y : List ℕ = q .last .1 .1 .1 .1 .1 .0 in
     let k : ℕ = a .i * 43 + 43 - a .i * 43 in
     let hk : a .i * 43 + 43 - a .i * 43 ≡ 43 = omega arith in
     let ly : length y ≡ length (take k (drop (a .i * 43) (a .invokes .now))) = search needs in

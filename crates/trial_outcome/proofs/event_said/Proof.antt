@@ -1,3 +1,5 @@
+use mir.Syntax.{w16}
+use mir.Facts.{toZ-ofZ}
 use borrow.Author.Needs.{needs}
 use Rattle.trial_outcome.proofs.event_said.Statement.{statement}
 use Rattle.trial_outcome.proofs.event_said.Tie as tie
@@ -24,7 +26,8 @@ returns-2 : tie.Need-returns-2
 returns-2 c = search needs
 
 returns-3 : tie.Need-returns-3
-returns-3 c = rw (c .before .event .given .1)
+returns-3 c =
+    let back = toZ-ofZ {w = w16} {z = c .before .event .given .0 .1 .0} (record { sfits = c .known-told .given .1 .0 .1 }) in rw (back, c .before .event .given .1)
 
 returns-4 : tie.Need-returns-4
 returns-4 c = rw (c .before .event2 .given .1)

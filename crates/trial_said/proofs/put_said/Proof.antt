@@ -1,4 +1,6 @@
 use native.Mathlib.Omega.{arith}
+use mir.Syntax.{w16}
+use mir.Facts.{toZ-ofZ}
 use Rattle.trial_said.specs.Word.{wordBytes}
 use Rattle.trial_said.proofs.Laws.{said-is}
 use borrow.Author.Needs.{needs}
@@ -17,14 +19,8 @@ put-one-requires c κs = search needs
 enum-known-said-2 : tie.Need-enum-known-said-2
 enum-known-said-2 c = search needs
 
-slice-aggregate-put-two : tie.Need-slice-aggregate-put-two
-slice-aggregate-put-two c = search needs
-
-cast-put-two : tie.Need-cast-put-two
-cast-put-two c = search needs
-
-put-two-requires : tie.Need-put-two-requires
-put-two-requires c κs = search needs
+put-answer-requires : tie.Need-put-answer-requires
+put-answer-requires c κs = search needs
 
 enum-known-said-3 : tie.Need-enum-known-said-3
 enum-known-said-3 c = search needs
@@ -38,14 +34,14 @@ put-one-requires-2 c κs = search needs
 enum-known-said-4 : tie.Need-enum-known-said-4
 enum-known-said-4 c = search needs
 
-slice-aggregate-put-two-2 : tie.Need-slice-aggregate-put-two-2
-slice-aggregate-put-two-2 c = search needs
+slice-aggregate-put-two : tie.Need-slice-aggregate-put-two
+slice-aggregate-put-two c = search needs
 
-cast-put-two-2 : tie.Need-cast-put-two-2
-cast-put-two-2 c = search needs
+cast-put-two : tie.Need-cast-put-two
+cast-put-two c = search needs
 
-put-two-requires-2 : tie.Need-put-two-requires-2
-put-two-requires-2 c κs = search needs
+put-two-requires : tie.Need-put-two-requires
+put-two-requires c κs = search needs
 
 enum-told : tie.Need-enum-told
 enum-told c = search needs
@@ -113,8 +109,10 @@ same-length-2 c = search needs
 returns-2 : tie.Need-returns-2
 unfolding wordBytes
 returns-2 c =
-    let e = c .before .before .put-two .ensures in
-    said-is _ _ _ _ _ _ (c .before .before .before .before .before .before .said2 .given .1) (e .0) (e .1) (omega (arith, e .2))
+    let k = c .before .before .before .before .before .said2 .given in
+    let back = toZ-ofZ {w = w16} {z = k .0 .1 .0} (record { sfits = c .before .before .before .before .known-told2 .given .1 .0 .1 }) in
+    let e = rw back at (c .before .before .put-answer .ensures) in
+    said-is _ _ _ _ _ _ (k .1) (e .0) (e .1) (omega (arith, e .2))
 
 same-length-3 : tie.Need-same-length-3
 same-length-3 c = search needs
@@ -131,7 +129,7 @@ same-length-4 c = search needs
 returns-4 : tie.Need-returns-4
 unfolding wordBytes
 returns-4 c =
-    let e = c .before .before .put-two2 .ensures in
+    let e = c .before .before .put-two .ensures in
     said-is _ _ _ _ _ _ (c .before .before .before .before .before .before .said4 .given .1) (e .0) (e .1) (omega (arith, e .2))
 
 same-length-5 : tie.Need-same-length-5
@@ -187,16 +185,14 @@ put-said-spec =
     slice-aggregate-put-one
     put-one-requires
     enum-known-said-2
-    slice-aggregate-put-two
-    cast-put-two
-    put-two-requires
+    put-answer-requires
     enum-known-said-3
     slice-aggregate-put-one-2
     put-one-requires-2
     enum-known-said-4
-    slice-aggregate-put-two-2
-    cast-put-two-2
-    put-two-requires-2
+    slice-aggregate-put-two
+    cast-put-two
+    put-two-requires
     enum-told
     slice-aggregate-put-bytes
     put-bytes-requires
