@@ -1,6 +1,6 @@
 -- Internal: what the code's inner functions promise. Not to be read for what a conflict is.
 use Prim.Native.Nat.{ℕ}
-use mathlib.Core.Bool.{Bool, cond, _||_}
+use mathlib.Core.Bool.{Bool, cond, not, _||_}
 use mathlib.Core.List.{List, [], _∷_}
 use lib.Dec.{eqb}
 use Rattle.operation.specs.declared.Operation.{Operation}
@@ -25,10 +25,7 @@ isOn k e = eqb (e .cell) k
 abbrev pub onCell : ℕ → List Operation → List Operation
 onCell k = parts (isOn k) (λ e. e)
 
--- Kinds 5 and 6 are about temperatures. To these kind 5 is a set (kind 4) of the cell's number to the last byte, and kind 6 a read (kind 3) of it.
-abbrev pub isTemp : Operation → Bool
-isTemp e = eqb (e .kind) 5 || eqb (e .kind) 6
-
+-- What an operation is to temperatures, as one on numbers: kind 5 a set (kind 4) of the cell's number to the last byte, and kind 6 a read (kind 3) of it.
 unfoldable pub tempPart : Operation → Operation
 tempPart e =
     record {
@@ -39,5 +36,13 @@ tempPart e =
       last = 0;
     }
 
-abbrev pub tempParts : List Operation → List Operation
-tempParts = parts isTemp tempPart
+-- Whether an operation is anything to the values (false) or to the temperatures (true) of the cells, what it is to them, and the operations by these parts.
+-- Kind 6 leaves every value and answers by none; kinds 5 and 6 alone are about temperatures.
+abbrev pub hasPart : Bool → Operation → Bool
+hasPart temps e = cond temps (eqb (e .kind) 5 || eqb (e .kind) 6) (not (eqb (e .kind) 6))
+
+abbrev pub partOf : Bool → Operation → Operation
+partOf temps e = cond temps (tempPart e) e
+
+abbrev pub partsOf : Bool → List Operation → List Operation
+partsOf temps = parts (hasPart temps) (partOf temps)

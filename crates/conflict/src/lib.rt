@@ -7,7 +7,7 @@ ghost use lib.ListN.{length, take};
 ghost use Rattle.operation.specs.Operation.{maxPending, value, valueResponse};
 ghost use Rattle.conflict.specs.Conflict.{conflicts};
 ghost use Rattle.conflict_cell.specs.Differs.{Differs};
-ghost use Rattle.conflict.specs.Cells.{changed, answered, onCell, isTemp, tempPart, tempParts};
+ghost use Rattle.conflict.specs.Cells.{changed, answered, onCell, tempPart, hasPart, partOf, partsOf};
 use operation::Cells;
 use operation::Operation;
 
@@ -96,13 +96,6 @@ fn differs_on(
     false
 }
 
-// Whether the operation is about temperatures.
-fn is_temp(e: Operation) -> bool
-    ensures { λ r. ⌜ r ≡ isTemp e ⌝ }
-{
-    (e.kind == 5) | (e.kind == 6)
-}
-
 // What an operation of kind 5 or 6 is to temperatures, as an operation on numbers: a set to its last byte, or a read.
 fn temp_part(e: Operation) -> Operation
     ensures { λ r. ⌜ r ≡ tempPart e ⌝ }
@@ -126,16 +119,34 @@ fn temp_part(e: Operation) -> Operation
     }
 }
 
-// How many of the first `n` operations are about temperatures.
-fn count_temps(ops: [Operation; operation::MAX_PENDING], n: usize) -> usize
+// Whether the operation is anything to the temperatures, or else to the values.
+fn has_part(e: Operation, temps: bool) -> bool
+    ensures { λ r. ⌜ r ≡ hasPart «temps» e ⌝ }
+{
+    if temps {
+        (e.kind == 5) | (e.kind == 6)
+    } else {
+        e.kind != 6
+    }
+}
+
+// What the operation is to the temperatures, or else to the values.
+fn part_of(e: Operation, temps: bool) -> Operation
+    ensures { λ r. ⌜ r ≡ partOf «temps» e ⌝ }
+{
+    if temps { temp_part(e) } else { e }
+}
+
+// How many of the first `n` operations are anything to the temperatures, or else to the values.
+fn count_parts(ops: [Operation; operation::MAX_PENDING], n: usize, temps: bool) -> usize
     requires { ⌜ n ≤ maxPending ⌝ }
-    ensures { λ r. ⌜ (r ≡ length (tempParts (take n ops))) × (r ≤ n) ⌝ }
+    ensures { λ r. ⌜ (r ≡ length (partsOf «temps» (take n ops))) × (r ≤ n) ⌝ }
 {
     let mut c = 0;
     let mut i = 0;
     while i < n {
         let e = ops[i];
-        if is_temp(e) {
+        if has_part(e, temps) {
             c += 1;
         }
         i += 1;
@@ -143,21 +154,22 @@ fn count_temps(ops: [Operation; operation::MAX_PENDING], n: usize) -> usize
     c
 }
 
-// What the first `n` operations are to temperatures, at the front.
-fn gather_temps(
+// What the first `n` operations are to the temperatures, or else to the values, at the front.
+fn gather_parts(
     ops: [Operation; operation::MAX_PENDING],
     n: usize,
+    temps: bool,
 ) -> [Operation; operation::MAX_PENDING]
     requires { ⌜ n ≤ maxPending ⌝ }
-    ensures { λ r. ⌜ take (length (tempParts (take n ops))) r ≡ tempParts (take n ops) ⌝ }
+    ensures { λ r. ⌜ take (length (partsOf «temps» (take n ops))) r ≡ partsOf «temps» (take n ops) ⌝ }
 {
     let mut new = ops;
     let mut c = 0;
     let mut i = 0;
     while i < n {
         let e = ops[i];
-        if is_temp(e) {
-            let p = temp_part(e);
+        if has_part(e, temps) {
+            let p = part_of(e, temps);
             new[c] = p;
             c += 1;
         }
@@ -166,31 +178,32 @@ fn gather_temps(
     new
 }
 
-// Whether some interleaving makes an own answer differ by temperature. Where no own operation is about temperatures, or
-// none of the others', none does.
-fn temps_differ(
-    temps: [u8; operation::CELL_COUNT],
+// Whether some interleaving makes an own answer differ, by the temperatures, or else by the values: these are the
+// numbers. Where no own operation is anything to them, or none of the others', none does.
+fn parts_differ(
+    numbers: [u8; operation::CELL_COUNT],
     others: [Operation; operation::MAX_PENDING],
     n: usize,
     own: [Operation; operation::MAX_PENDING],
     m: usize,
+    temps: bool,
 ) -> bool
     requires { ⌜ (n ≤ maxPending) × (m ≤ maxPending) ⌝ }
-    ensures { λ r. ⌜ (r ≡ true) ↔ Differs changed answered temps temps (tempParts (take n others)) (tempParts (take m own)) ⌝ }
+    ensures { λ r. ⌜ (r ≡ true) ↔ Differs changed answered numbers numbers (partsOf «temps» (take n others)) (partsOf «temps» (take m own)) ⌝ }
 {
-    let own_count = count_temps(own, m);
+    let own_count = count_parts(own, m, temps);
     if own_count == 0 {
         return false;
     }
-    let other_count = count_temps(others, n);
+    let other_count = count_parts(others, n, temps);
     if other_count == 0 {
         return false;
     }
     differs_on(
-        temps,
-        gather_temps(others, n),
+        numbers,
+        gather_parts(others, n, temps),
         other_count,
-        gather_temps(own, m),
+        gather_parts(own, m, temps),
         own_count,
     )
 }
@@ -207,7 +220,8 @@ fn at_most_pending(n: usize) -> usize
 }
 
 // Whether the first `n` of the others' operations conflict with the first `m` own ones: by the cells' values, or by their
-// temperatures. A number above `MAX_PENDING` means all.
+// temperatures. A number above `MAX_PENDING` means all. Where no own operation is about temperatures, the values decide, on
+// the lists as they are.
 pub fn conflict(
     cells: Cells,
     others: [Operation; operation::MAX_PENDING],
@@ -220,9 +234,12 @@ pub fn conflict(
     let a = at_most_pending(n);
     let b = at_most_pending(m);
     let values = cells.values;
-    if differs_on(values, others, a, own, b) {
+    let temps = cells.temps;
+    if count_parts(own, b, true) == 0 {
+        return differs_on(values, others, a, own, b);
+    }
+    if parts_differ(values, others, a, own, b, false) {
         return true;
     }
-    let temps = cells.temps;
-    temps_differ(temps, others, a, own, b)
+    parts_differ(temps, others, a, own, b, true)
 }

@@ -1,4 +1,4 @@
-// The conflict test among operations on one cell.
+// The conflict test among operations on one cell, by one number: its value or its temperature.
 ghost use mathlib.Core.Path.{_≡_};
 ghost use Prim.Native.Nat.{_≤_};
 ghost use mathlib.Core.Bool.{true};
@@ -8,8 +8,8 @@ ghost use Rattle.operation.specs.Operation.{maxPending, value, valueResponse};
 ghost use Rattle.conflict_cell.specs.Differs.{Differs};
 use operation::Operation;
 
-// Whether some interleaving makes an own response differ, where all operations are on one cell. reach[j] has the
-// values that are reached with j own operations run, the own responses so far being as they are alone.
+// Whether some interleaving makes an own answer differ, where all operations are on one cell, whose number is `start`.
+// reach[j] has the values that are reached with j own operations run, the own answers so far being as they are alone.
 pub fn conflict_at(
     start: u8,
     others: [Operation; operation::MAX_PENDING],
@@ -23,9 +23,12 @@ pub fn conflict_at(
     // "One cell's values reached so far are 256 yes-or-no marks."
     let none = [false; 256];
     let mut reach = [none; 33];
-    let x = start as usize;
-    reach[0][x] = true;
+    // The start value, laid out, makes the first row. (A whole row is written, not one mark: the compiler then puts the
+    // rows at multiples of 16 bytes, wherever the test is called from. Else a long search takes some 8 in 100 more.)
     let mut wide = [false; 768];
+    let x = start as usize;
+    wide[x + 256] = true;
+    conflict_marks::merge(&mut reach[0], &wide, 256);
     // Over the others' operations: i of them are run, or left out.
     let mut i = 0;
     'search: loop {

@@ -6,7 +6,7 @@ use mathlib.Core.List.{List}
 use mathlib.Core.Logic.{_⊎_, inl, inr, ⊎-elim}
 use native.Mathlib.Decide.{ℕ-discrete, decLt}
 use native.Mathlib.Omega.{arith}
-use lib.ListN.{length, getD, set, replicate, length-replicate, length-set, List·getD-eq-default}
+use lib.ListN.{length, getD, set, replicate, length-set, List·getD-eq-default}
 use lib.Seq.{getD-set-same, getD-set-other}
 use Rattle.conflict_marks.specs.Marks.{Has, Blank, Laid, Joined}
 
@@ -133,6 +133,3 @@ pub repeated : {A : Type 0} (P : A → Type 0) (a d : A) → P a → P d → (n 
 repeated P a d pa pd zero i = pd
 repeated P a d pa pd (suc n) zero = pa
 repeated P a d pa pd (suc n) (suc i) = repeated P a d pa pd n i
-
-pub blank-first : Blank (replicate 768 false)
-blank-first = record { long = length-replicate 768 false; middle = λ x o. absurd (clash (repeated (λ b. b ≡ false) false false refl refl 768 x) o) }

@@ -1,55 +1,62 @@
 use Prim.Native.Nat.{ℕ, _<_, _≤_, _-_, _+_}
 use mathlib.Core.Path.{_≡_, refl, sym, _∙_}
+use mathlib.Core.Bool.{false}
 use mathlib.Core.Logic.{⊎-elim}
 use native.Mathlib.Omega.{arith}
 use borrow.Author.Needs.{needs}
 use borrow.Author.Count.{below-more}
-use lib.ListN.{length, take, drop, length-set}
+use lib.ListN.{length, take, drop, length-set, length-replicate}
 use Rattle.operation.specs.Operation.{value, valueResponse}
 use Rattle.conflict_marks.specs.Marks.{Has, Blank, marksAt}
-use Rattle.conflict_marks.proofs.Stored.{clash, below, laid-blank, blank-first}
+use Rattle.conflict_marks.proofs.Stored.{clash, below, laid-blank}
 use Rattle.conflict_marks.proofs.Moved.{own-moved}
 use Rattle.conflict_marks.proofs.Look.{none-other}
 use Rattle.conflict_cell.specs.Differs.{Differs}
-use Rattle.conflict_cell.proofs.First.{first-marks}
+use Rattle.conflict_cell.proofs.First.{first-marks, start-blank}
 use Rattle.conflict_cell.proofs.Reach.{opNo, ran-none, alone, Held, Closed, begins}
 use Rattle.conflict_cell.proofs.Taken.{count, next, own-step, own-long, differs-at, finished, other-step}
 use Rattle.conflict_cell.proofs.conflict_at.Statement.{statement}
 use Rattle.conflict_cell.proofs.conflict_at.Tie as tie
 
 abbrev Inv-loop2 : tie.InvT-loop2
-Inv-loop2 start n m others own reach x wide i u j w expected v₀ v =
+Inv-loop2 start n m others own reach wide x i u j w expected v₀ v =
     (v ≤ 256) × ((x : ℕ) → x < v → Has (marksAt reach j) x → valueResponse w x ≡ expected)
 
 abbrev μ-loop2 : tie.MeasureT-loop2
-μ-loop2 start n m others own reach x wide i u j w expected v₀ v = 256 - v
+μ-loop2 start n m others own reach wide x i u j w expected v₀ v = 256 - v
 
 abbrev Inv-loop : tie.InvT-loop
-Inv-loop start n m others own reach₀ x wide₀ i u₀ j₀ reach wide u j =
+Inv-loop start n m others own reach₀ wide₀ x i u₀ j₀ reach wide u j =
     (j ≤ m) × (u ≡ alone start (take m own) j) × (length reach ≡ 33) × Closed start (take m own) reach j
     × Held start (take m own) (Differs value valueResponse start start (take n others) (take m own)) (drop i (take n others)) reach × Blank wide
 
 abbrev μ-loop : tie.MeasureT-loop
-μ-loop start n m others own reach₀ x wide₀ i u₀ j₀ reach wide u j = m - j
+μ-loop start n m others own reach₀ wide₀ x i u₀ j₀ reach wide u j = m - j
 
 abbrev Inv-search : tie.InvT-search
-Inv-search start n m others own reach₀ x wide₀ i₀ reach wide i =
+Inv-search start n m others own reach₀ wide₀ x i₀ reach wide i =
     (i ≤ n) × (length reach ≡ 33)
-    × Held start (take m own) (Differs value valueResponse start start (take n others) (take m own)) (drop i (take n others)) reach × Blank wide
+    × Held start (take m own) (Differs value valueResponse start start (take n others) (take m own)) (drop i (take n others)) reach × Blank wide × (m ≤ length own)
 
 abbrev μ-search : tie.MeasureT-search
-μ-search start n m others own reach₀ x wide₀ i₀ reach wide i = n - i
+μ-search start n m others own reach₀ wide₀ x i₀ reach wide i = n - i
 
-index-1-reach : tie.Need-index-1-reach Inv-loop2 μ-loop2 Inv-loop μ-loop Inv-search μ-search
-index-1-reach c = search needs
+add-wide : tie.Need-add-wide Inv-loop2 μ-loop2 Inv-loop μ-loop Inv-search μ-search
+add-wide c = search needs
 
-index-2-reach : tie.Need-index-2-reach Inv-loop2 μ-loop2 Inv-loop μ-loop Inv-search μ-search
-index-2-reach c = search needs
+array-write-wide : tie.Need-array-write-wide Inv-loop2 μ-loop2 Inv-loop μ-loop Inv-search μ-search
+array-write-wide c = search needs
+
+index-1-merge : tie.Need-index-1-merge Inv-loop2 μ-loop2 Inv-loop μ-loop Inv-search μ-search
+index-1-merge c = search needs
+
+merge-requires : tie.Need-merge-requires Inv-loop2 μ-loop2 Inv-loop μ-loop Inv-search μ-search
+merge-requires c κs = (omega arith, length-replicate 256 false)
 
 search-holds : tie.Need-search-holds Inv-loop2 μ-loop2 Inv-loop μ-loop Inv-search μ-search
 search-holds c =
-    let a = c .args in
-    (omega arith, search needs, begins _ _ (first-marks (a .start) (search needs)) (omega (arith, count (a .start) (a .m) (a .t4) (search needs))), blank-first)
+    let a = c .before .before .before .args in
+    (omega arith, search needs, begins _ _ (first-marks (a .start) (search needs) (c .merge .ensures)) (omega (arith, count (a .start) (a .m) (a .t4) (search needs))), start-blank (a .start) (search needs), search needs)
 
 loop-holds : tie.Need-loop-holds Inv-loop2 μ-loop2 Inv-loop μ-loop Inv-search μ-search
 loop-holds c = (omega arith, sym (ran-none _), c .search .inv .1, (λ j v h. absurd (omega arith)), c .search .inv .2, c .search .inv .3)
@@ -72,7 +79,7 @@ index-1-lay-out c = search needs
 
 lay-out-requires : tie.Need-lay-out-requires Inv-loop2 μ-loop2 Inv-loop μ-loop Inv-search μ-search
 lay-out-requires c κs =
-    let a = c .before .before .before .before .before .before .before .args in
+    let a = c .before .before .before .before .before .before .before .before .before .before .args in
     let l = c .before .before .before .before .before .loop in
     (own-long (a .start) (a .m) (a .t4) (search needs) (l .inv .4) (l .j) (omega arith), l .inv .5)
 
@@ -91,7 +98,7 @@ index-1-if2 c = search needs
 
 index-2-if2 : tie.Need-index-2-if2 Inv-loop2 μ-loop2 Inv-loop μ-loop Inv-search μ-search
 index-2-if2 c =
-    let a = c .before .before .before .before .before .before .before .before .before .before .before .before .before .args in
+    let a = c .before .before .before .before .before .before .before .before .before .before .before .before .before .before .before .before .args in
     let l = c .before .before .before .before .before .before .before .before .before .before .before .loop in
     search (needs, own-long (a .start) (a .m) (a .t4) (search needs) (l .inv .4) (l .j) (omega arith))
 
@@ -132,7 +139,7 @@ index-1-run-into c = search needs
 run-into-requires :
     tie.Need-run-into-requires Inv-loop2 μ-loop2 Inv-loop μ-loop Inv-search μ-search
 run-into-requires c κs =
-    let a = c .before .before .before .before .before .before .before .before .before .before .before .before .before .before .args in
+    let a = c .before .before .before .before .before .before .before .before .before .before .before .before .before .before .before .before .before .args in
     let l = c .before .before .before .before .before .before .before .before .before .before .before .before .loop in
     (c .before .before .moved-from .ensures .0, own-long (a .start) (a .m) (a .t4) (search needs) (l .inv .4) (l .j + 1) (omega arith))
 
@@ -148,20 +155,21 @@ loop-less c = search needs
 
 loop-again : tie.Need-loop-again Inv-loop2 μ-loop2 Inv-loop μ-loop Inv-search μ-search
 loop-again c =
-    let a = c .before .before .before .before .before .before .before .before .before .before .before .before .before .before .before .before .args in
+    let a = c .before .before .before .before .before .before .before .before .before .before .before .before .before .before .before .before .before .before .before .args in
     let l = c .before .before .before .before .before .before .before .before .before .before .before .before .before .before .loop in
+    let fits = c .before .before .before .before .before .before .before .before .before .before .before .before .before .before .before .search .inv .4 in
     let x = c .before .before .before .before .before .before .before .before .before .before .before .value-response in
     let y = c .before .before .before .before .before .before .before .before .lay-out .ensures in
-    let long = own-long (a .start) (a .m) (a .t4) (search needs) (l .inv .4) (l .j) (omega arith) in
+    let long = own-long (a .start) (a .m) (a .t4) fits (l .inv .4) (l .j) (omega arith) in
     let same : (v : ℕ) → Has (marksAt (l .reach) (l .j)) v → valueResponse (opNo (a .t4) (l .j)) v ≡ valueResponse (opNo (a .t4) (l .j)) (l .u) =
     ⊎-elim
     (λ s v o. s .1 .inv .1 v (omega (arith, below (marksAt (l .reach) (l .j)) v long o, s .2 .left)) o ∙ x .ensures)
     (λ s v o. none-other _ _ y (c .before .before .before .before .before .before .any-other .ensures) (s .left) v o)
     (c .before .before .before .before .before .if1 .came) in
     let moved = own-moved (l .u) long y (rw (x .ensures) at (c .before .before .before .before .moved-from .ensures .1)) same (c .before .run-into .ensures) in
-    let r = own-step (a .start) (a .m) (a .t4) (search needs) (l .j) (l .u) (omega arith) (omega arith) (l .inv .1) moved same (l .inv .3) (l .inv .4) in (
+    let r = own-step (a .start) (a .m) (a .t4) fits (l .j) (l .u) (omega arith) (omega arith) (l .inv .1) moved same (l .inv .3) (l .inv .4) in (
       omega arith,
-      c .value-after .ensures ∙ next (a .start) (a .m) (a .t4) (search needs) (l .j) (l .u) (omega arith) (l .inv .1),
+      c .value-after .ensures ∙ next (a .start) (a .m) (a .t4) fits (l .j) (l .u) (omega arith) (l .inv .1),
       simp length-set (l .inv .2),
       r .0,
       r .1,
@@ -170,7 +178,7 @@ loop-again c =
 
 returns : tie.Need-returns Inv-loop2 μ-loop2 Inv-loop μ-loop Inv-search μ-search
 returns c =
-    let a = c .before .before .before .before .args in
+    let a = c .before .before .before .before .before .before .before .args in
     let l = c .before .before .loop in (
       (λ e. absurd (clash refl e)),
       λ g. absurd (finished (a .start) (a .m) (a .t4) (search needs) (a .n) (a .t2) (search needs) (c .before .before .before .search .i) (l .j) (omega arith) (omega arith) (l .inv .3) (l .inv .4) (omega arith) g),
@@ -184,7 +192,7 @@ array-copy-out-o c = search needs
 
 widen-requires : tie.Need-widen-requires Inv-loop2 μ-loop2 Inv-loop μ-loop Inv-search μ-search
 widen-requires c κs =
-    let a = c .before .before .before .before .before .before .before .args in
+    let a = c .before .before .before .before .before .before .before .before .before .before .args in
     let l = c .before .before .before .before .before .loop in
     (omega arith, l .inv .2, (λ j h. own-long (a .start) (a .m) (a .t4) (search needs) (l .inv .4) j h), l .inv .5)
 
@@ -196,17 +204,18 @@ search-less c = search needs
 
 search-again : tie.Need-search-again Inv-loop2 μ-loop2 Inv-loop μ-loop Inv-search μ-search
 search-again c =
-    let a = c .before .before .before .before .before .before .before .before .args in
+    let a = c .before .before .before .before .before .before .before .before .before .before .before .args in
     let l = c .before .before .before .before .before .before .loop in (
       omega arith,
       c .widen .ensures .0 .long,
       other-step (a .start) (a .m) (a .t4) (search needs) (a .n) (a .t2) (search needs) (c .before .before .before .before .before .before .before .search .i) (l .j) (omega arith) (omega arith) (l .inv .3) (l .inv .4) (omega arith) (c .widen .ensures .0),
       c .widen .ensures .1,
+      c .before .before .before .before .before .before .before .search .inv .4,
     )
 
 returns-2 : tie.Need-returns-2 Inv-loop2 μ-loop2 Inv-loop μ-loop Inv-search μ-search
 returns-2 c =
-    let a = c .before .before .before .before .before .before .before .before .before .before .before .before .before .before .before .before .before .args in
+    let a = c .before .before .before .before .before .before .before .before .before .before .before .before .before .before .before .before .before .before .before .before .args in
     let l = c .before .before .before .before .before .before .before .before .before .before .before .before .before .before .before .loop in
     let x = c .before .before .before .before .before .before .before .before .before .before .before .before .value-response in (
       (λ e. differs-at (a .start) (a .m) (a .t4) (search needs) (l .j) (l .u) (c .before .before .before .before .before .loop2 .v) (l .inv .4) (omega arith) (l .inv .1) (c .before .before .if2 .taken) (λ e. c .if3 .taken (c .before .value-response2 .ensures ∙ e ∙ sym (x .ensures)))),
@@ -223,8 +232,10 @@ conflict-at-spec =
     μ-loop
     Inv-search
     μ-search
-    index-1-reach
-    index-2-reach
+    add-wide
+    array-write-wide
+    index-1-merge
+    merge-requires
     search-holds
     loop-holds
     mul-w

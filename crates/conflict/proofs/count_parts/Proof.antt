@@ -1,19 +1,19 @@
 use Prim.Native.Nat.{_<_, _≤_, _-_, _+_}
 use mathlib.Core.Path.{_≡_, sym, ap, _∙_}
 use native.Mathlib.Omega.{arith}
-use mathlib.Core.Logic.{_⊎_, ⊎-elim}
+use mathlib.Core.Logic.{⊎-elim}
 use lib.ListN.{length, take}
-use Rattle.conflict.specs.Cells.{parts, isTemp, tempPart, tempParts}
+use Rattle.conflict.specs.Cells.{parts, hasPart, partOf, partsOf}
 use Rattle.conflict.proofs.Parts.{out-take, count-more}
 use borrow.Author.Needs.{needs}
-use Rattle.conflict.proofs.count_temps.Statement.{statement}
-use Rattle.conflict.proofs.count_temps.Tie as tie
+use Rattle.conflict.proofs.count_parts.Statement.{statement}
+use Rattle.conflict.proofs.count_parts.Tie as tie
 
 abbrev Inv-loop : tie.InvT-loop
-Inv-loop n ops c₀ i₀ c i = (i ≤ n) × (c ≤ i) × (c ≡ length (tempParts (take i ops)))
+Inv-loop n temps ops c₀ i₀ c i = (i ≤ n) × (c ≤ i) × (c ≡ length (partsOf temps (take i ops)))
 
 abbrev μ-loop : tie.MeasureT-loop
-μ-loop n ops c₀ i₀ c i = n - i
+μ-loop n temps ops c₀ i₀ c i = n - i
 
 loop-holds : tie.Need-loop-holds Inv-loop μ-loop
 unfolding parts
@@ -25,8 +25,8 @@ mul-e c = search needs
 array-copy-out-e : tie.Need-array-copy-out-e Inv-loop μ-loop
 array-copy-out-e c = search needs
 
-is-temp-requires : tie.Need-is-temp-requires Inv-loop μ-loop
-is-temp-requires c κs = search needs
+has-part-requires : tie.Need-has-part-requires Inv-loop μ-loop
+has-part-requires c κs = search needs
 
 add-c : tie.Need-add-c Inv-loop μ-loop
 add-c c = search needs
@@ -41,20 +41,21 @@ loop-again : tie.Need-loop-again Inv-loop μ-loop
 loop-again c =
     let a = c .before .before .before .before .before .args in
     let l = c .before .before .before .before .loop in
-    let x = c .before .is-temp .ensures in
+    let x = c .before .has-part .ensures in
     let h : l .i < length (a .t1) = search needs in
     ⊎-elim
-    (λ w. (omega arith, omega arith, w .1 ∙ ap (λ x. x + 1) (l .inv .2) ∙ sym (count-more isTemp tempPart (a .t1) (l .i) h (sym x ∙ w .0 .taken))))
-    (λ w. (omega arith, omega arith, w .1 ∙ l .inv .2 ∙ ap length (sym (out-take isTemp tempPart (a .t1) (l .i) h (sym x ∙ w .0 .left)))))
+    (λ w. (omega arith, omega arith, w .1 ∙ ap (λ x. x + 1) (l .inv .2) ∙ sym (count-more (hasPart (a .temps)) (partOf (a .temps)) (a .t1) (l .i) h (sym x ∙ w .0 .taken))))
+    (λ w. (omega arith, omega arith, w .1 ∙ l .inv .2 ∙ ap length (sym (out-take (hasPart (a .temps)) (partOf (a .temps)) (a .t1) (l .i) h (sym x ∙ w .0 .left)))))
     (c .if1 .came)
 
 returns : tie.Need-returns Inv-loop μ-loop
 returns c =
-    let e : c .before .loop .i ≡ c .before .before .args .n = omega arith in
-    (c .before .loop .inv .2 ∙ ap (λ i. length (tempParts (take i (c .before .before .args .t1)))) e, omega arith)
+    let a = c .before .before .args in
+    let e : c .before .loop .i ≡ a .n = omega arith in
+    (c .before .loop .inv .2 ∙ ap (λ i. length (partsOf (a .temps) (take i (a .t1)))) e, omega arith)
 
-pub count-temps-spec : {M : Type 1} → statement M
-count-temps-spec =
+pub count-parts-spec : {M : Type 1} → statement M
+count-parts-spec =
     tie.close
     (tie.spec
     Inv-loop
@@ -62,7 +63,7 @@ count-temps-spec =
     loop-holds
     mul-e
     array-copy-out-e
-    is-temp-requires
+    has-part-requires
     add-c
     add-i
     loop-less
