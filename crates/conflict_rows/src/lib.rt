@@ -1,11 +1,11 @@
 // Rows of marks moved by an operation, and the quick look before the search. Definitions: those of conflict_marks.
 ghost use mathlib.Core.Path.{_≡_};
-ghost use Prim.Native.Nat.{ℕ, _+_, _≤_};
+ghost use Prim.Native.Nat.{ℕ, _+_, _<_, _≤_};
 ghost use mathlib.Core.Bool.{true};
 ghost use mathlib.Core.Logic.{_↔_};
 ghost use lib.ListN.{length};
 ghost use Rattle.operation.specs.Operation.{maxPending};
-ghost use Rattle.conflict_marks.specs.Marks.{Blank, Ran, Other, marksAt, Widened};
+ghost use Rattle.conflict_marks.specs.Marks.{Has, Blank, Ran, Other, marksAt, Widened};
 use operation::Operation;
 
 // Adds what the operation makes of the marks laid out: a set's amount, if there is any mark; else the marks moved
@@ -24,6 +24,20 @@ pub fn run_into(into: &mut [bool; 256], wide: &[bool; 768], e: Operation, at: us
     }
 }
 
+// Whether one of the 256 places from `at` on is marked, where only the middle ones may be: none below them, none above.
+fn any_seen(wide: &[bool; 768], at: usize) -> bool
+    requires { ⌜ (at ≤ 512) × Blank (now wide) ⌝ }
+    ensures { λ r. ⌜ (r ≡ true) ↔ ((k : ℕ) × (k < 256) × Has (now (wide .entry)) (at + k)) ⌝ }
+{
+    if at == 0 {
+        return false;
+    }
+    if at == 512 {
+        return false;
+    }
+    conflict_marks::any_marked(wide, at)
+}
+
 // A quick look: whether a value whose response is not that of u is marked, below the span of those with its response
 // or above it.
 pub fn any_other(wide: &[bool; 768], e: Operation, u: u8) -> bool
@@ -31,8 +45,8 @@ pub fn any_other(wide: &[bool; 768], e: Operation, u: u8) -> bool
     ensures { λ r. ⌜ (r ≡ true) ↔ Other e u (now (wide .entry)) ⌝ }
 {
     let same = conflict_marks::same_span(e, u);
-    let below = conflict_marks::any_marked(wide, same.lo);
-    let above = conflict_marks::any_marked(wide, same.hi + 256);
+    let below = any_seen(wide, same.lo);
+    let above = any_seen(wide, same.hi + 256);
     below | above
 }
 
