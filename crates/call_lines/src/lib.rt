@@ -73,6 +73,16 @@ pub fn first_letter(line: &[u8]) -> u8 {
 
 // States in bytes, one after the other
 
+// The sixteen bytes from `at` on: the values of the cells, or their temperatures.
+pub fn sixteen(s: &[u8], at: usize) -> [u8; 16]
+    requires { ⌜ at + 16 ≤ length (now s) ⌝ }
+{
+    let mut t = [0u8; 16];
+    let e = at + 16;
+    slices::copy_to(&mut t, 0, &s[at..e]);
+    t
+}
+
 // Copies a part to its place, if it fits there.
 pub fn copy_part(state: &mut [u8], at: usize, part: &[u8]) {
     if at <= state.len() {

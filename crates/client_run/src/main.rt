@@ -73,21 +73,11 @@ fn chain_of(state: &[u8]) -> [u8; replica::CHAIN_LENGTH]
     t
 }
 
-// The values of the cells or their temperatures.
-fn sixteen_of(state: &[u8], at: usize) -> [u8; operation::CELL_COUNT]
-    requires { ⌜ at + 16 ≤ length (now state) ⌝ }
-{
-    let mut t = [0u8; operation::CELL_COUNT];
-    let e = at + 16;
-    slices::copy_to(&mut t, 0, &state[at..e]);
-    t
-}
-
 fn cells_of(state: &[u8]) -> Cells
     requires { ⌜ 1398 ≤ length (now state) ⌝ }
 {
-    let values = sixteen_of(state, 1365);
-    let temps = sixteen_of(state, 1381);
+    let values = call_lines::sixteen(state, 1365);
+    let temps = call_lines::sixteen(state, 1381);
     Cells { values, temps }
 }
 
