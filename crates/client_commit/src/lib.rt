@@ -78,13 +78,11 @@ pub fn replied_replica(
 pub fn says(v: Verdict, seq: u32) -> Event
     ensures { λ r. ⌜ eventTold r ≡ saysOf (v .aborted) (v .response) seq ⌝ }
 {
+    let response = v.response;
     if v.aborted {
         Event::Aborted { seq }
     } else {
-        Event::Responded {
-            seq,
-            response: v.response,
-        }
+        Event::Responded { seq, response }
     }
 }
 
