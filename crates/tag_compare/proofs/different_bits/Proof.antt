@@ -33,15 +33,13 @@ loop-less c = search needs
 
 loop-again : tie.Need-loop-again Inv-loop μ-loop
 loop-again c =
-    let a = c .before .before .args in
-    let l = c .before .loop in
-    l .inv ∙ gather-more (a .t1) (a .t2) (l .i) (l .bits) (search needs) (search needs)
+    let l = c .before in
+    l .loop .inv ∙ gather-more (l .before .args .t1) (l .before .args .t2) (l .loop .i) (l .loop .bits) (search needs) (search needs)
 
 returns : tie.Need-returns Inv-loop μ-loop
 returns c =
-    let a = c .before .before .args in
-    let l = c .before .loop in
-    sym (l .inv ∙ gather-done (a .t1) (a .t2) (l .i) (l .bits) (search needs))
+    let end = c .before in
+    sym (end .loop .inv ∙ gather-done (end .before .args .t1) (end .before .args .t2) (end .loop .i) (end .loop .bits) (search needs))
 
 pub different-bits-spec : {M : Type 1} → statement M
 different-bits-spec =
