@@ -149,6 +149,17 @@ def changed(message, at, mask):
     return message[:at] + bytes([message[at] ^ mask]) + message[at + 1 :]
 
 
+def tags_that_cancel(s, slot, good, at):
+    """Wrong tags at `at` whose differences a careless sum would lose: two bytes changed alike, and two exchanged."""
+    s.note("Two bytes of the tag changed alike, or exchanged")
+    for i in range(at, at + 31):
+        alike = changed(changed(good, i, 0x80), i + 1, 0x80)
+        exchanged = good[:i] + good[i + 1 : i + 2] + good[i : i + 1] + good[i + 2 :]
+        for message in (alike, exchanged):
+            outcome, _ = s.take(slot, message, to=3)
+            assert (outcome == ("halt", 22)) == (message != good)
+
+
 def opening(s):
     s.note("Opening: van number, then key length")
     for van in (0, 9, 255):
@@ -515,6 +526,8 @@ def damaged_reply(s):
         for at in range(len(good)):
             outcome, _ = s.take(0, changed(good, at, mask), to=3)
             assert outcome[0] == "halt"
+    for k in (0, 3):
+        tags_that_cancel(s, 0, good, 3 + 41 * k + 9)
     s.note("A halted van, asked before all but its fields")
     s.take(3, good)
     s.take(3, b"")
@@ -766,6 +779,7 @@ def damaged_broadcast(s):
             for at in range(80):
                 outcome, _ = s.take(slot, changed(good, at, mask), to=3)
                 assert outcome[0] == "halt"
+        tags_that_cancel(s, slot, good, 48)
         s.note("Lengths and marks")
         for message in (good[:-1], good + b"\0", b"BR", b"B", b"CO" + good[2:], b"RE" + good[2:], good[:44]):
             s.take(slot, message, to=3)

@@ -1,8 +1,9 @@
-// Two tags compared in the same steps whatever their bytes are. Definition: specs/Difference.antt.
+// Two tags compared in the same steps, whatever their bytes are (bench/tags.sh). Definition: specs/Difference.antt.
 ghost use mathlib.Core.Path.{_≡_};
 ghost use Rattle.tag_compare.specs.Difference.{differentBits};
 
-// The bits in which some byte of the one tag differs from that of the other, gathered: each pair is read and no byte is tested. Zero exactly if the tags are equal (`differ-nowhere`, proofs/Laws.antt).
+// The bits in which some byte of `s` differs from that of `t`: every pair is read, and none is tested. Zero exactly if the tags are equal
+// (`zero-exactly`, proofs/Laws.antt).
 pub fn different_bits(s: [u8; 32], t: [u8; 32]) -> u8
     ensures { λ r. ⌜ r ≡ differentBits s t ⌝ }
 {
