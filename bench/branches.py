@@ -83,6 +83,8 @@ def after(name, ops, elsewhere, counts):
             raise Refused("an operand that is not known")
         if "[" in o and base != "lea" and registers(o) & counts:
             raise Refused("an address that depends on the bytes")
+    if base == "imul" and len(ops) == 1:
+        raise Refused("an instruction that is not known")
     whole, size = REGISTERS.get(ops[0] if ops else "", (None, 0))
     if base in ZEROES and len(ops) > 1 and ops[-1] == ops[-2] and size >= 4:
         return counts - {whole} - (set() if whole.startswith("xmm") else {"flags"})
