@@ -1,6 +1,6 @@
 -- Gathered differences: one step at an index, and that they are zero exactly if the two lists are one.
 -- Assumes nothing.
-use Prim.Native.Nat.{ℕ, zero, suc, _+_, _/_, _<_, _≤_}
+use Prim.Native.Nat.{ℕ, suc, _+_, _/_, _<_, _≤_}
 use mathlib.Core.Path.{_≡_, refl, sym, ap, ap₂, _∙_}
 use mathlib.Core.List.{List, [], _∷_}
 use mathlib.Core.Bool.{Bool, true, false, _&&_, true≢false}
@@ -67,5 +67,5 @@ zero-same (x ∷ s) (y ∷ t) e = or-zero (bitXor x y) (differentBits s t) ∙ a
 pub zero-exactly : (s t : List ℕ) → length s ≡ length t → (differentBits s t ≡ 0 → s ≡ t) × (s ≡ t → differentBits s t ≡ 0)
 zero-exactly s t e =
     let one : differentBits s t ≡ 0 → s ≡ t = λ z. same-yes s t (sym (zero-same s t e) ∙ eq-eqb _ _ z) in
-    let zero : s ≡ t → differentBits s t ≡ 0 = λ p. eqb-true _ _ (zero-same s t e ∙ ap (same s) (sym p) ∙ same-self s) in
-    (one, zero)
+    let none : s ≡ t → differentBits s t ≡ 0 = λ p. eqb-true _ _ (zero-same s t e ∙ ap (same s) (sym p) ∙ same-self s) in
+    (one, none)
