@@ -34,6 +34,7 @@ f refuse_by_swap;     mov eax, [rdi]; bswap eax; test eax, eax; jne 1f; nop; 1: 
 f refuse_exchanged;   mov rax, [rdi]; mov ecx, 1; xchg rax, rcx; test ecx, ecx; jne 1f; nop; 1: ret
 f refuse_one_way;     xor ecx, ecx; test edi, edi; je 1f; mov ecx, [rdi]; 1: test ecx, ecx; jne 2f; nop; 2: ret
 f refuse_next_round;  xor ecx, ecx; xor eax, eax; 1: test ecx, ecx; jne 2f; mov ecx, [rdi+rax]; inc eax; cmp eax, 8; jne 1b; 2: ret
+f refuse_all_gathered; xor eax, eax; xor ecx, ecx; 1: mov dl, [rdi+rcx]; xor dl, [rsi+rcx]; or al, dl; cmp al, 255; je 2f; inc rcx; cmp rcx, 32; jne 1b; 2: ret
 f refuse_jrcxz;       movzx ecx, byte ptr [rdi]; jrcxz 1f; nop; 1: ret
 
 # a computed way, another function, an address or a time that depends on the bytes, an instruction that is not known

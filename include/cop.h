@@ -32,8 +32,9 @@
    Keys. Each client has a key of 32 bytes and every client holds all eight, client 1's first: the same 256 bytes in each,
    from a good source of random bytes, and on no other machine; the server has none. They stand unhidden in cop_replica, so that a
    file with one, a core dump or a page of swap with one is as secret as the keys. Whoever has a key can speak as its client. The
-   library neither makes keys nor wipes memory. A tag is compared in the same steps whichever of its bytes are wrong (bench/tags.sh
-   shows it of the machine code); nothing else is claimed about the time that a call takes. */
+   library neither makes keys nor wipes memory. Tags are compared without a branch on their bytes (bench/tags.sh
+   shows it of the comparison's machine code, and of cop_receive on 99 wrong tags); nothing else is claimed about the time that
+   a call takes. */
 #ifndef COP_H
 #define COP_H
 #include <stddef.h>

@@ -3,7 +3,8 @@ use Prim.Native.Nat.{ℕ}
 use mathlib.Core.List.{List, [], _∷_}
 use lib.Bits.{bitOr, bitXor}
 
--- the bits in which some byte of s differs from the byte of t at its place
+-- the bits in which some byte of s differs from the byte of t at its place; what one has past the other's end does not count, so the laws are
+-- of lists of one length, as two tags are
 unfoldable pub differentBits : List ℕ → List ℕ → ℕ
 differentBits [] t = 0
 differentBits (x ∷ s) [] = 0
