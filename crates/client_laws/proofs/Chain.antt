@@ -60,7 +60,7 @@ unfolding itemsChecks
 items-yes r m zero e k h = absurd (omega arith)
 items-yes r m (suc n) e k h =
     let qs = itemChecks r (replyCount m) n (replyItem m n) in
-    let y = all-yes (firstNo 0 (itemsChecks r m n)) qs (refl, (refl, (refl, tt))) (sym (first-append 0 (itemsChecks r m n) qs) ∙ e) in
+    let y = all-yes (firstNo 0 (itemsChecks r m n)) qs (refl, (refl, (refl, (refl, tt)))) (sym (first-append 0 (itemsChecks r m n) qs) ∙ e) in
     ⊎-elim (λ (q : k ≡ n). rw q (y .1)) (λ (l : k < n). items-yes r m n (y .0) k l) (eq-or-lt-of-le (le-of-suc-le-suc h))
 
 -- ---- an item's value

@@ -18,7 +18,7 @@ use Rattle.checks.proofs.Laws.{first-stays, first-append, first-zero, all-yes, 
 use Rattle.replica.specs.Outcome.{isStop}
 use Rattle.replica.specs.Replica.{inRange}
 use Rattle.replica.proofs.Laws.{ranged}
-use Rattle.client_reply_check.specs.ReplyChecks.{seqAt, listedOk, itemChecks, itemProofChecks, itemsChecks, lastItem, lastOk, replyFormChecks, lastChecks, replyNo}
+use Rattle.client_reply_check.specs.ReplyChecks.{seqAt, listedOk, itemProofChecks, itemOwnChecks, itemChecks, itemsChecks, lastItem, lastOk, replyFormChecks, lastChecks, replyNo}
 
 -- ---- an item's checks
 pub record ItemAllowed (c k : ℕ) (i : Item) : Type 0 where
@@ -34,7 +34,7 @@ item-allowed c k i e =
     record { op = y .0; low = leb-true _ _ (y .1 .0); high = leb-true _ _ (y .1 .1 .0); seq = leb-true _ _ (y .1 .1 .1 .0) }
 
 module _ (r : Replica) (n k : ℕ) (i : Item) where
-  pub item-goes : listedOk (r .confirmed) k i ≡ true → firstNo 0 (itemProofChecks r k i) ≡ firstNo 0 (itemChecks r n k i)
+  pub item-goes : listedOk (r .confirmed) k i ≡ true → firstNo (firstNo 0 (itemProofChecks r k i)) (itemOwnChecks r n k i) ≡ firstNo 0 (itemChecks r n k i)
   item-goes e = rw e
 
   pub item-stops : listedOk (r .confirmed) k i ≡ false → 21 ≡ firstNo 0 (itemChecks r n k i)
@@ -125,7 +125,7 @@ module _ (r : Replica) (m : List ℕ) (room : ℕ) where
 items-among : (r : Replica) (m : List ℕ) (n : ℕ) → Among isStop (itemsChecks r m n)
 unfolding itemsChecks
 items-among r m zero = tt
-items-among r m (suc k) = among-append isStop (itemsChecks r m k) (itemChecks r (replyCount m) k (replyItem m k)) (items-among r m k) (refl, (refl, (refl, tt)))
+items-among r m (suc k) = among-append isStop (itemsChecks r m k) (itemChecks r (replyCount m) k (replyItem m k)) (items-among r m k) (refl, (refl, (refl, (refl, tt))))
 
 pub reply-stop : (r : Replica) (m : List ℕ) (room : ℕ) → eqb (replyNo r m room) 0 ≡ false → isStop (replyNo r m room) ≡ true
 unfolding replyNo

@@ -3,18 +3,18 @@ use Prim.Native.Nat.{ℕ}
 use mathlib.Core.List.{List}
 use Rattle.replica.specs.declared.Replica.{Replica}
 
--- r with this last confirmed place, this many held past it, and this chain
-abbrev pub withChain : Replica → ℕ → ℕ → List ℕ → Replica
-withChain r c held chain =
+-- r with this number, this last confirmed place, this many held past it, this chain and these statuses
+abbrev pub withParts : Replica → ℕ → ℕ → ℕ → List ℕ → List ℕ → Replica
+withParts r number c held chain statuses =
     record {
-      number = r .number;
+      number = number;
       keys = r .keys;
       count = r .count;
       current = r .current;
       confirmed = c;
       held = held;
       chain = chain;
-      statuses = r .statuses;
+      statuses = statuses;
       cells = r .cells;
       halt = r .halt;
     }

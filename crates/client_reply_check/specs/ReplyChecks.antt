@@ -1,7 +1,7 @@
--- The checks of a reply. Document 01, "The questions, in order" (`RE`).
+-- The checks of a reply. Document 01, "The questions, in order" (`RE`); 26: document 02, Q-4.
 use Prim.Native.Nat.{ℕ, zero, suc, _+_, _-_}
 use mathlib.Core.List.{List, [], _∷_, _++_}
-use mathlib.Core.Bool.{Bool, true, cond}
+use mathlib.Core.Bool.{Bool, true, cond, not}
 use lib.Dec.{ltb, leb, eqb}
 use Rattle.slices.specs.Bytes.{same}
 use Rattle.operation.specs.Operation.{opOk, sameOp}
@@ -10,7 +10,7 @@ use Rattle.message.specs.Layout.{clientCount, maxSeq, commitLength}
 use Rattle.message.specs.Message.{isReply, replyCount, replyItem}
 use Rattle.verify.specs.Verify.{itemTagOk, linkValue}
 use Rattle.replica.specs.declared.Replica.{Replica}
-use Rattle.replica.specs.Places.{valueAt}
+use Rattle.replica.specs.Places.{valueAt, statusAt}
 use Rattle.checks.specs.Checks.{every, firstNo}
 use Rattle.replica.specs.Replica.{readyChecks}
 
@@ -31,12 +31,19 @@ itemValue c k i chain = linkValue (valueAt c k chain) (i .op) (seqAt c k) (i .au
 unfoldable pub itemChainOk : ℕ → ℕ → List ℕ → ℕ → Item → Bool
 itemChainOk c held chain k i = cond (ltb k held) (same (itemValue c k i chain) (valueAt c (k + 1) chain)) true
 
--- "item by item": 21; 22 ("Tag right?"), 23. Of item k of n.
+-- 26: "if it is this van's own, isn't the last, and no status is held for its place". Of item k of n, where this status is held (0: none).
+unfoldable pub isUncommitted : ℕ → ℕ → ℕ → ℕ → Item → Bool
+isUncommitted number status n k i = every true (eqb (i .author) number ∷ ltb (k + 1) n ∷ eqb status 0 ∷ [])
+
+-- "item by item": 21; 22 ("Tag right?"), 23; "after 23": 26. Of item k of n.
 abbrev pub itemProofChecks : Replica → ℕ → Item → List (Bool × ℕ)
 itemProofChecks r k i = (itemTagOk (r .keys) i, 22) ∷ (itemChainOk (r .confirmed) (r .held) (r .chain) k i, 23) ∷ []
 
+abbrev pub itemOwnChecks : Replica → ℕ → ℕ → Item → List (Bool × ℕ)
+itemOwnChecks r n k i = (not (isUncommitted (r .number) (statusAt (r .confirmed) k (r .statuses)) n k i), 26) ∷ []
+
 abbrev pub itemChecks : Replica → ℕ → ℕ → Item → List (Bool × ℕ)
-itemChecks r n k i = (listedOk (r .confirmed) k i, 21) ∷ itemProofChecks r k i
+itemChecks r n k i = (listedOk (r .confirmed) k i, 21) ∷ (itemProofChecks r k i ++ itemOwnChecks r n k i)
 
 -- those of the first k items
 unfoldable pub itemsChecks : Replica → List ℕ → ℕ → List (Bool × ℕ)

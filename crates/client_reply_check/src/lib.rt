@@ -4,8 +4,8 @@ ghost use Prim.Native.Nat.{_+_, _<_, _≤_};
 ghost use Rattle.operation.specs.Operation.{maxPending};
 ghost use Rattle.message.specs.Layout.{clientCount, maxSeq};
 ghost use Rattle.checks.specs.Checks.{firstNo};
-ghost use Rattle.client_reply_check.specs.ReplyChecks.{listedOk, itemValue, itemChainOk, itemProofChecks, itemChecks};
-ghost use Rattle.client_reply_check.specs.Parts.{withChain};
+ghost use Rattle.client_reply_check.specs.ReplyChecks.{listedOk, itemValue, itemChainOk, isUncommitted, itemProofChecks, itemChecks};
+ghost use Rattle.client_reply_check.specs.Parts.{withParts};
 ghost use Rattle.key_table.specs.KeyTable.{StateOf};
 ghost use Rattle.replica.specs.declared.Replica.{Replica};
 use hmac::Keyed;
@@ -61,17 +61,27 @@ fn item_proof(
     s: Keyed,
 ) -> u8
     requires { ⌜ (k < maxPending) × (c ≤ maxSeq) ⌝ }
-    ensures { λ q. ⌜ ((r : Replica) → StateOf (r .keys) (i .author) s → q ≡ firstNo 0 (itemProofChecks (withChain r c held (now (chain .entry))) k i)) ⌝ }
+    ensures { λ q. ⌜ ((r : Replica) → StateOf (r .keys) (i .author) s → q ≡ firstNo 0 (itemProofChecks (withParts r (r .number) c held (now (chain .entry)) (r .statuses)) k i)) ⌝ }
 {
     let q = checks::also(0, verify::item_tag_ok(s, i), 22);
     checks::also(q, item_chain_ok(c, held, chain, k, i), 23)
 }
 
+// Whether item `k` of `n` is the client's own, is not the last, and stands where no status is held.
+fn is_uncommitted(number: u8, status: u8, n: usize, k: usize, i: Item) -> bool
+    requires { ⌜ k < maxPending ⌝ }
+    ensures { λ r. ⌜ r ≡ isUncommitted number status n k i ⌝ }
+{
+    (i.author == number) & (k + 1 < n) & (status == 0)
+}
+
 // The checks of item `k` of `n`.
 fn item_check(
+    number: u8,
     c: u32,
     held: u32,
     chain: &[u8; replica::CHAIN_LENGTH],
+    statuses: &[u8; operation::MAX_PENDING],
     n: usize,
     k: usize,
     i: Item,
@@ -79,10 +89,11 @@ fn item_check(
 ) -> u8
     requires { ⌜ (k < maxPending) × (c ≤ maxSeq) ⌝ }
     ensures { λ q. ⌜ ((r : Replica) → (1 ≤ i .author → i .author ≤ clientCount → StateOf (r .keys) (i .author) s)
-        → q ≡ firstNo 0 (itemChecks (withChain r c held (now (chain .entry))) n k i)) ⌝ }
+        → q ≡ firstNo 0 (itemChecks (withParts r number c held (now (chain .entry)) (now (statuses .entry))) n k i)) ⌝ }
 {
     if listed_ok(c, k, i) {
-        item_proof(c, held, chain, k, i, s)
+        let q = item_proof(c, held, chain, k, i, s);
+        checks::also(q, !is_uncommitted(number, statuses[k], n, k, i), 26)
     } else {
         21
     }
@@ -91,9 +102,11 @@ fn item_check(
 // The first no so far, else that of item `k`.
 pub fn item_also(
     so_far: u8,
+    number: u8,
     c: u32,
     held: u32,
     chain: &[u8; replica::CHAIN_LENGTH],
+    statuses: &[u8; operation::MAX_PENDING],
     n: usize,
     k: usize,
     i: Item,
@@ -101,11 +114,11 @@ pub fn item_also(
 ) -> u8
     requires { ⌜ (k < maxPending) × (c ≤ maxSeq) ⌝ }
     ensures { λ q. ⌜ ((r : Replica) → (1 ≤ i .author → i .author ≤ clientCount → StateOf (r .keys) (i .author) s)
-        → q ≡ firstNo «so_far» (itemChecks (withChain r c held (now (chain .entry))) n k i)) ⌝ }
+        → q ≡ firstNo «so_far» (itemChecks (withParts r number c held (now (chain .entry)) (now (statuses .entry))) n k i)) ⌝ }
 {
     if so_far != 0 {
         so_far
     } else {
-        item_check(c, held, chain, n, k, i, s)
+        item_check(number, c, held, chain, statuses, n, k, i, s)
     }
 }

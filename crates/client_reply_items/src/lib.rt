@@ -36,6 +36,7 @@ fn items_check(r: Replica, m: &[u8], n: usize) -> Checked
     ensures { λ q. ⌜ (q .no ≡ firstNo 0 (itemsChecks r (now (m .entry)) n)) × (1 ≤ r .number → r .number ≤ clientCount → StateOf (r .keys) (r .number) (q .own)) ⌝ }
 {
     let keys = r.keys;
+    let statuses = r.statuses;
     let mut t = key_table::none();
     let mut q = 0u8;
     let mut k = 0;
@@ -48,7 +49,18 @@ fn items_check(r: Replica, m: &[u8], n: usize) -> Checked
             known: true,
             state: s,
         };
-        q = client_reply_check::item_also(q, r.confirmed, r.held, &r.chain, n, k, i, s);
+        q = client_reply_check::item_also(
+            q,
+            r.number,
+            r.confirmed,
+            r.held,
+            &r.chain,
+            &statuses,
+            n,
+            k,
+            i,
+            s,
+        );
         k += 1;
     }
     let at = key_table::entry_place(r.number);

@@ -9,14 +9,14 @@ use native.Mathlib.Omega.{arith}
 use borrow.Author.Tests.{leb-true, le-leb, lt-leb}
 use Rattle.checks.proofs.Laws.{and-yes, cond-cases, every-yes}
 use Rattle.operation.specs.Operation.{opOk, tempsOk}
-use Rattle.replica.specs.Outcome.{isHalt, isStop}
+use Rattle.replica.specs.Outcome.{Told, refused, halted, isHalt, isStop}
 use Rattle.replica.specs.Places.{statusesOk, unusedStatuses, unusedValues}
 use Rattle.replica.specs.Replica.{noCurrent, numbersOk, arraysOk, inRange, After, refuse, haltedAt, halt, stop}
 use Rattle.replica.specs.declared.Replica.{Replica}
 
 -- ---- numbers
-pub halt-bounds : (n : ℕ) → isHalt n ≡ true → (20 ≤ n) × (n ≤ 25)
-halt-bounds n e = let h = and-yes (leb 20 n) (leb n 25) e in (leb-true _ _ (h .0), leb-true _ _ (h .1))
+pub halt-bounds : (n : ℕ) → isHalt n ≡ true → (20 ≤ n) × (n ≤ 26)
+halt-bounds n e = let h = and-yes (leb 20 n) (leb n 26) e in (leb-true _ _ (h .0), leb-true _ _ (h .1))
 
 pub refusal-bounds : (n : ℕ) → isStop n ≡ true → isHalt n ≡ false → (1 ≤ n) × (n ≤ 8)
 refusal-bounds n e f =
@@ -110,28 +110,26 @@ pub record Sound (r : Replica) : Type 0 where
 
 -- ---- a stop
 module _ (r : Replica) (n : ℕ) where
-  -- a halt's number halts, another is a refusal
-  pub stop-halts : 20 ≤ n → n ≤ 25 → stop r n ≡ halt r n
-  stop-halts h k = rw (le-leb _ _ h, le-leb _ _ k)
-
+  -- "Numbers below 20 … are refusals"
   pub stop-low : n < 20 → stop r n ≡ refuse r n
   stop-low h = rw (lt-leb _ _ h)
 
   -- nothing changes but the halt mark, which a halt makes the number
-  pub stop-cases : (P : Replica → Type 0) → P r → (20 ≤ n → n ≤ 25 → P (haltedAt r n)) → P (stop r n .replica)
-  stop-cases P a b =
-      cond-cases (λ (x : After). P (x .replica)) (leb 20 n && leb n 25) (halt r n) (refuse r n)
-      (λ e. let h = and-yes (leb 20 n) (leb n 25) e in b (leb-true _ _ (h .0)) (leb-true _ _ (h .1)))
-      (λ e. a)
+  pub stop-cases : (P : Replica → Type 0) → P r → (isHalt n ≡ true → P (haltedAt r n)) → P (stop r n .replica)
+  stop-cases P a b = cond-cases (λ (x : After). P (x .replica)) (isHalt n) (halt r n) (refuse r n) b (λ e. a)
+
+  -- and the number is told, as a halt or as a refusal
+  pub stop-tells : (P : Told → Type 0) → P (halted n) → P (refused n) → P (stop r n .says)
+  stop-tells P h f = cond-cases (λ (x : After). P (x .says)) (isHalt n) (halt r n) (refuse r n) (λ e. h) (λ e. f)
 
   pub stop-rest : stop r n .replica ≡ haltedAt r (stop r n .replica .halt)
-  stop-rest = stop-cases (λ (s : Replica). s ≡ haltedAt r (s .halt)) refl (λ h k. refl)
+  stop-rest = stop-cases (λ (s : Replica). s ≡ haltedAt r (s .halt)) refl (λ h. refl)
 
   pub stop-in-range : inRange r ≡ true → inRange (stop r n .replica) ≡ true
   stop-in-range e =
       let g = ranged r e in
       stop-cases (λ (s : Replica). inRange s ≡ true) e
-      (λ h k.
+      (λ h.
       in-range (haltedAt r n) (record {
         low = g .low;
         high = g .high;
@@ -139,7 +137,7 @@ module _ (r : Replica) (n : ℕ) where
         confirmed = g .confirmed;
         held = g .held;
         last = g .last;
-        mark = rw (le-leb 20 n h, le-leb n 25 k) (or-true (eqb n 0));
+        mark = rw h (or-true (eqb n 0));
         current = g .current;
         statuses = g .statuses;
         unused = g .unused;
@@ -149,7 +147,7 @@ module _ (r : Replica) (n : ℕ) where
 
   pub stop-sized : Sized r → Sized (stop r n .replica)
   stop-sized s =
-      stop-cases Sized s (λ h k. record { keys = s .keys; chain = s .chain; statuses = s .statuses; cells = s .cells })
+      stop-cases Sized s (λ h. record { keys = s .keys; chain = s .chain; statuses = s .statuses; cells = s .cells })
 
   pub stop-sound : Sound r → Sound (stop r n .replica)
   stop-sound s = record { range = stop-in-range (s .range); sized = stop-sized (s .sized) }

@@ -33,7 +33,7 @@ refusalNo R.CountFull = 6
 refusalNo R.Room = 7
 refusalNo R.Range = 8
 
--- "20 to 25 are halts"
+-- "20 to 25 are halts"; "26 …; it is a halt" (document 02, Q-4)
 abbrev pub haltNo : Halt → ℕ
 haltNo H.Form = 20
 haltNo H.Content = 21
@@ -41,10 +41,11 @@ haltNo H.Tag = 22
 haltNo H.Chain = 23
 haltNo H.Last = 24
 haltNo H.Seq = 25
+haltNo H.Uncommitted = 26
 
--- which numbers are halts, and which a client's checks have
+-- which numbers are halts: said here alone (proofs/Once.antt: they are those of the enum); and which a client's checks have
 abbrev pub isHalt : ℕ → Bool
-isHalt n = leb 20 n && leb n 25
+isHalt n = leb 20 n && leb n 26
 
 abbrev pub isStop : ℕ → Bool
 isStop n = isHalt n || (leb 1 n && leb n 8)

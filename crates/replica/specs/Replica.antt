@@ -102,7 +102,7 @@ haltedAt r n =
 abbrev pub halt : Replica → ℕ → After
 halt r n = record { replica = haltedAt r n; says = halted n }
 
--- "Numbers below 20 and from 30 are refusals …. 20 to 25 are halts"
+-- "Numbers below 20 and from 30 are refusals …. 20 to 25 are halts", and 26 (document 02, Q-4)
 abbrev pub stop : Replica → ℕ → After
 stop r n = cond (isHalt n) (halt r n) (refuse r n)
 

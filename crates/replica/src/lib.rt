@@ -51,6 +51,7 @@ pub enum Halt {
     Chain,
     Last,
     Seq,
+    Uncommitted,
 }
 
 // What a successful call brings.
@@ -146,6 +147,7 @@ pub fn halt_number(why: Halt) -> u8
         Halt::Chain => 23,
         Halt::Last => 24,
         Halt::Seq => 25,
+        Halt::Uncommitted => 26,
     }
 }
 
@@ -168,7 +170,7 @@ fn refusal_of(number: u8) -> Refusal
 
 // The halt of this number.
 fn halt_of(number: u8) -> Halt
-    requires { ⌜ (20 ≤ number) × (number ≤ 25) ⌝ }
+    requires { ⌜ isHalt number ≡ true ⌝ }
     ensures { λ r. ⌜ haltNo r ≡ number ⌝ }
 {
     match number {
@@ -177,7 +179,8 @@ fn halt_of(number: u8) -> Halt
         22 => Halt::Tag,
         23 => Halt::Chain,
         24 => Halt::Last,
-        _ => Halt::Seq,
+        25 => Halt::Seq,
+        _ => Halt::Uncommitted,
     }
 }
 
@@ -185,12 +188,12 @@ fn halt_of(number: u8) -> Halt
 pub fn is_halt(number: u8) -> bool
     ensures { λ r. ⌜ r ≡ isHalt number ⌝ }
 {
-    (20 <= number) & (number <= 25)
+    (20 <= number) & (number <= 26)
 }
 
 // A halt: the halt mark set, the rest as it was.
 fn halted(replica: Replica, number: u8) -> Stepped
-    requires { ⌜ (20 ≤ number) × (number ≤ 25) ⌝ }
+    requires { ⌜ isHalt number ≡ true ⌝ }
     ensures { λ r. ⌜ afterOf r ≡ halt replica number ⌝ }
 {
     let mut r = replica;

@@ -3,8 +3,8 @@ use Prim.Native.Nat.{ℕ, _+_}
 use mathlib.Core.Path.{_≡_, refl, sym, _∙_}
 use mathlib.Core.Logic.{_⊎_, inl, inr}
 use mathlib.Core.List.{List, [], _∷_}
-use mathlib.Core.Bool.{Bool, true, false, _&&_, true≢false}
-use lib.Dec.{leb, eqb}
+use mathlib.Core.Bool.{Bool, true, false, true≢false}
+use lib.Dec.{eqb}
 use lib.ListN.{length, drop}
 use borrow.Author.Tests.{eqb-true}
 use Rattle.operation.specs.declared.Operation.{Operation}
@@ -16,7 +16,8 @@ use Rattle.verify.proofs.Laws.{invoke-tag-length}
 use Rattle.replica.specs.declared.Replica.{Replica}
 use Rattle.replica.specs.Outcome as O
 use Rattle.replica.specs.Outcome.{Told}
-use Rattle.replica.specs.Replica.{After, Step, stop, stopStep, halt, refuse, noCurrent}
+use Rattle.replica.specs.Replica.{After, Step, stop, stopStep, noCurrent}
+use Rattle.replica.proofs.Laws.{stop-tells}
 use Rattle.checks.proofs.Laws.{cond-cases, all-yes}
 use Rattle.client_invoke.specs.Invoke.{newOp, invokeChecks, invokeNo, invokeMessage, invokeStep}
 use Rattle.client_broadcast.specs.Broadcast.{broadcastNo, broadcastStep}
@@ -51,7 +52,7 @@ success-rest (O.refused n) l s = absurd s
 success-rest (O.halted n) l s = absurd s
 
 stop-fails : (r : Replica) (n : ℕ) → Success (stop r n .says) → ⊥
-stop-fails r n = cond-cases (λ (a : After). Success (a .says) → ⊥) (leb 20 n && leb n 25) (halt r n) (refuse r n) (λ e s. s) (λ e s. s)
+stop-fails r n = stop-tells r n (λ (t : Told). Success t → ⊥) (λ s. s) (λ s. s)
 
 -- ---- an invoke is written
 pub record Invoking (r : Replica) (q : Step) : Type 0 where
@@ -79,16 +80,13 @@ pub record Stopping (q : Step) : Type 0 where
   pub word-told : (w : World) (n : ℕ) → invokedWord w n (q .after .says) ≡ toldWord (q .after .says)
   pub none : q .wrote ≡ []
 
-stop-cases : (P : Told → Type 0) (r : Replica) (k : ℕ) → P (O.halted k) → P (O.refused k) → P (stop r k .says)
-stop-cases P r k h f = cond-cases (λ (a : After). P (a .says)) (leb 20 k && leb k 25) (halt r k) (refuse r k) (λ e. h) (λ e. f)
-
 stopping : (r : Replica) (k : ℕ) → Stopping (stopStep r k)
 unfolding sent invokedWord
 stopping r k =
     record {
-      no-told = stop-cases (λ (t : Told). isSuccess t ≡ false) r k refl refl;
-      sent-told = λ n room. stop-cases (λ (t : Told). sent n room t ≡ []) r k refl refl;
-      word-told = λ w n. stop-cases (λ (t : Told). invokedWord w n t ≡ toldWord t) r k refl refl;
+      no-told = stop-tells r k (λ (t : Told). isSuccess t ≡ false) refl refl;
+      sent-told = λ n room. stop-tells r k (λ (t : Told). sent n room t ≡ []) refl refl;
+      word-told = λ w n. stop-tells r k (λ (t : Told). invokedWord w n t ≡ toldWord t) refl refl;
       none = refl;
     }
 

@@ -12,10 +12,10 @@ use Rattle.client_reply_items.proofs.items_check.Statement.{statement}
 use Rattle.client_reply_items.proofs.items_check.Tie as tie
 
 abbrev Inv-loop : tie.InvT-loop
-Inv-loop m n r keys t₀ q₀ k₀ t q k = (q ≡ firstNo 0 (itemsChecks r m k)) × (k ≤ n) × Right (r .keys) t
+Inv-loop m n r keys statuses t₀ q₀ k₀ t q k = (q ≡ firstNo 0 (itemsChecks r m k)) × (k ≤ n) × Right (r .keys) t
 
 abbrev μ-loop : tie.MeasureT-loop
-μ-loop m n r keys t₀ q₀ k₀ t q k = n - k
+μ-loop m n r keys statuses t₀ q₀ k₀ t q k = n - k
 
 none-requires : tie.Need-none-requires Inv-loop μ-loop
 none-requires c κs = search needs
@@ -56,14 +56,15 @@ loop-less c = search needs
 
 loop-again : tie.Need-loop-again Inv-loop μ-loop
 loop-again c =
-    let p = c .before .before .before .before .before .before .before .before in
-    let a = p .before .before .before .before .args in
+    let p = c .before .before .before .before .before .before .before .before .before in
+    let z = p .before .before .before .before .before in
+    let a = z .args in
     let l = p .loop in
-    let s = c .before .before .before .state-of .ensures in
-    let e = ap (λ (i : Item). firstNo (l .q) (itemChecks (a .t1) (a .n) (l .k) i)) (c .before .before .before .before .before .before .item-of .ensures) in (
-      c .item-also .ensures (a .t1) s ∙ e ∙ rw (l .inv .0) (items-more (a .t1) (a .m .now) (l .k)),
-      search needs,
-      rw (c .before .before .before .before .before .entry-place .ensures .0) (one-more _ _ _ _ (l .inv .2) s),
+    let s = c .before .before .before .before .state-of .ensures in
+    let e = ap (λ (i : Item). firstNo (l .q) (itemChecks (a .t1) (a .n) (l .k) i)) (c .before .before .before .before .before .before .before .item-of .ensures) in (
+      c .item-also .ensures (a .t1) s ∙ e ∙ rw (l .inv .0, z .pre .0) (items-more (a .t1) (a .m .now) (l .k)),
+      omega (arith, c .before .before .before .before .before .before .before .before .loop-test .taken),
+      rw (c .before .before .before .before .before .before .entry-place .ensures .0) (one-more _ _ _ _ (l .inv .2) s),
     )
 
 entry-place-requires-2 : tie.Need-entry-place-requires-2 Inv-loop μ-loop
@@ -81,7 +82,7 @@ state-of-requires-2 c κs = rw (c .before .entry-place2 .ensures .0) (c .before 
 returns : tie.Need-returns Inv-loop μ-loop
 returns c =
     let p = c .before .before .before .before in
-    let e : p .loop .k ≡ p .before .before .before .before .args .n = omega arith in
+    let e : p .loop .k ≡ p .before .before .before .before .before .args .n = omega arith in
     (p .loop .inv .0 ∙ rw e, c .state-of2 .ensures)
 
 pub items-check-spec : {M : Type 1} → statement M

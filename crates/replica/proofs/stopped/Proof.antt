@@ -1,6 +1,6 @@
 use mathlib.Core.Path.{sym, _∙_}
 use borrow.Author.Needs.{needs}
-use Rattle.replica.proofs.Laws.{halt-bounds, refusal-bounds}
+use Rattle.replica.proofs.Laws.{refusal-bounds}
 use Rattle.replica.proofs.stopped.Statement.{statement}
 use Rattle.replica.proofs.stopped.Tie as tie
 
@@ -8,7 +8,7 @@ is-halt-requires : tie.Need-is-halt-requires
 is-halt-requires c κs = search needs
 
 halted-requires : tie.Need-halted-requires
-halted-requires c κs = halt-bounds _ (sym (c .before .is-halt .ensures) ∙ c .if1 .taken)
+halted-requires c κs = sym (c .before .is-halt .ensures) ∙ c .if1 .taken
 
 refusal-of-requires : tie.Need-refusal-of-requires
 refusal-of-requires c κs = refusal-bounds _ (c .before .before .pre) (sym (c .before .is-halt .ensures) ∙ c .if1 .left)
