@@ -14,7 +14,7 @@ pub data Single (l : List Ev) : Type 0 where
   one : (x : Ev) → l ≡ x ∷ [] → Single l
 
 single-in : (t : Told) (i : ℕ) (r : Replica) (m : List ℕ) (s : Replica) → Single (evIn t i r m s)
-single-in (invoked n) i r m s = one _ refl
+single-in (invoked n) i r m s = none refl
 single-in (responded seq x) i r m s = one _ refl
 single-in (aborted seq) i r m s = one _ refl
 single-in (confirmed seq x) i r m s = one _ refl

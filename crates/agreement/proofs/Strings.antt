@@ -24,12 +24,12 @@ use Rattle.client_reply.specs.Reply.{chainAfter, isAborted}
 use Rattle.client_laws.proofs.Chain.{item-taken, last-current}
 use Rattle.client_laws.proofs.Reply.{reply-sized, replied-chain, last-seq}
 use Rattle.client_laws.proofs.Broadcast.{broadcast-digest, next-length}
-use Rattle.agreement.specs.WholeRuns.{caller, Logged, took, allOf, itemStrings, broadcastString, strings, itemCarried, itemTags, broadcastCarried, tags}
+use Rattle.agreement.specs.WholeRuns.{caller, Logged, took, allOf, itemStrings, broadcastString, strings, broadcastCarried, tags}
 use Rattle.agreement.proofs.Trace.{Com, Ev, commit, confirm, onto}
 use Rattle.agreement.proofs.Confirm.{confirms}
 use Rattle.agreement.proofs.Runs.{Ready, Fine}
 use Rattle.agreement.proofs.Logs.{Split}
-use Rattle.agreement.proofs.Events.{comOf, Kind, quiet, makes, commits, confirms-it, kind-of, commit-strings, commit-tags, confirm-strings, confirm-tags}
+use Rattle.agreement.proofs.Events.{comOf, Kind, quiet, makes, commits, confirms-it, kind-of, commit-strings, confirm-strings, confirm-tags}
 
 -- ---- lists
 pub in-all : {A : Type 0} (f : Logged → List A) (es : List Logged) {e : Logged} {x : A} → List·Memᴰ e es → List·Memᴰ x (f e) → List·Memᴰ x (allOf f es)
@@ -49,15 +49,6 @@ in-items r m (suc n) j h =
     ⊎-elim
     (λ (q : j ≡ n). Memᴰ·append-right (itemStrings r m n) (List·Memᴰ·head (rw q)))
     (λ (l : j < n). Memᴰ·append-left _ (in-items r m n j l))
-    (eq-or-lt-of-le (le-of-suc-le-suc h))
-
-pub in-tags : (m : List ℕ) (n j : ℕ) → j < n → List·Memᴰ (itemCarried (replyItem m j)) (itemTags m n)
-unfolding itemTags
-in-tags m zero j h = absurd (omega arith)
-in-tags m (suc n) j h =
-    ⊎-elim
-    (λ (q : j ≡ n). Memᴰ·append-right (itemTags m n) (List·Memᴰ·head (rw q)))
-    (λ (l : j < n). Memᴰ·append-left _ (in-tags m n j l))
     (eq-or-lt-of-le (le-of-suc-le-suc h))
 
 -- ---- ranges
@@ -118,7 +109,6 @@ module _ (keys : List ℕ) (log : List Logged) (F : (e : Logged) → List·Mem�
     pub room : ℕ
     pub passed : replyNo (event .before) (took event) room ≡ 0
     pub strs : strings event ≡ itemStrings (event .before) (took event) (replyCount (took event))
-    pub tgs : tags event ≡ itemTags (took event) (replyCount (took event))
     pub ready : Ready keys (caller (event .call)) (event .before)
 
   pub commit-is : {i : ℕ} {k : Com} {o : List Ev} → Split log [] (commit i k) o → Commits i k o
@@ -143,7 +133,6 @@ module _ (keys : List ℕ) (log : List Logged) (F : (e : Logged) → List·Mem�
             room = room;
             passed = z;
             strs = commit-strings (s .event) q;
-            tgs = commit-tags (s .event) q;
             ready = f .ready;
           }
 

@@ -13,15 +13,13 @@ use Rattle.hmac.proofs.Laws.{hmac-length}
 use Rattle.operation.specs.declared.Operation.{Operation}
 use Rattle.message.specs.declared.Commit.{Commit}
 use Rattle.message.specs.Message.{invokeString, commitString, replyCount}
-use Rattle.round_trips.proofs.Operations.{ok-fits}
-use Rattle.round_trips.proofs.Messages.{invoke-string-fields, commit-string-fields}
+use Rattle.round_trips.proofs.Messages.{commit-string-fields}
 use Rattle.verify.specs.Verify.{invokeTag, commitTag}
 use Rattle.verify.proofs.Laws.{invoke-tag-length, commit-tag-length}
 use Rattle.replica.specs.Replica.{Step}
 use Rattle.client_invoke.specs.Invoke.{newOp}
-use Rattle.client_laws.proofs.Invoke.{invoke-current}
 use Rattle.agreement.specs.WholeRuns.{caller, Logged, took, entryOf, tagBy, Tagged}
-use Rattle.agreement.proofs.Trace.{At, Com, Ev, made, commit, comSeq, comDigest, comStatus, onto}
+use Rattle.agreement.proofs.Trace.{At, Com, Ev, commit, comSeq, comDigest, comStatus, onto}
 use Rattle.agreement.proofs.Invariant.{Committed}
 use Rattle.agreement.proofs.Runs.{Fine}
 use Rattle.agreement.proofs.Logs.{mem-at}
@@ -75,7 +73,7 @@ not-none : (s t : List ℕ) → length t ≡ 32 → [] ≡ s ++ t → ⊥
 not-none s t h q = (let l = length-append s t in let z : 0 ≡ length (s ++ t) = ap length q in absurd (omega arith))
 
 pub data Tagger (older : List Logged) (a : ℕ) (s : List ℕ) : Type 0 where
-  byMake : (op : Operation) (o : List Ev) (n : ℕ) → At (onto older []) (made a op) o → op .count < 2 ^ 32 → s ≡ invokeString op n → Tagger older a s
+  byMake : (op : Operation) (n : ℕ) → s ≡ invokeString op n → Tagger older a s
   byReply : (k : Com) (o : List Ev) (n : ℕ) → At (onto older []) (commit a k) o → k .r .current .count < 2 ^ 32 → comSeq k < 2 ^ 32
       → length (comDigest k) ≡ 32 → s ≡ commitString (k .r .current) n (comSeq k) (comDigest k) (comStatus k) → Tagger older a s
 
@@ -94,8 +92,7 @@ tagger keys older a s F T = go (kind-of (T .event) (f .case))
         let op : Operation = newOp (e .before) kind cell amount last in
         let p : s ≡ invokeString op n = front-same s (invokeString op n) (tagBy keys a s) (invokeTag (e .before .keys) op n) (tag-long keys a s) (invoke-tag-length (e .before .keys) op n)
         (sym (T .wrote) ∙ made-wrote e kind cell amount last q) in
-        let at = mem-at older [] e (T .mem) t in
-        byMake op (at .0) n (subst (λ (i : ℕ). At (onto older []) (made i op) (at .0)) (T .by) (at .1)) (ok-fits op (invoke-current (e .before) kind cell amount last room z)) p
+        byMake op n p
     go (commits room z q t) =
         let e = T .event in
         let r = e .before in
@@ -114,17 +111,10 @@ apart : (e f : Operation) (a b p : ℕ) (d : List ℕ) (s : ℕ) → invokeStrin
 unfolding invokeString commitString
 apart e f a b p d s q = (let z : _≡_ {A = ℕ} 73 67 = ap (λ (l : List ℕ). getD l 0 0) q in omega arith)
 
--- an operation with a right tag was made
-pub made-before : (older : List Logged) (a : ℕ) (op : Operation) → op .count < 2 ^ 32 → Tagger older a (invokeString op a)
-    → (p : List Ev) × At (onto older []) (made a op) p
-made-before older a op h (byMake op′ o n at g q) =
-    let f = invoke-string-fields op op′ a n h g q in (o, subst (λ (x : Operation). At (onto older []) (made a x) o) (sym (f .0)) at)
-made-before older a op h (byReply k o n at g₁ g₂ g₃ q) = absurd (apart op (k .r .current) a n (comSeq k) (comDigest k) (comStatus k) q)
-
 -- a commit with a right tag was written
 pub committed-before : (older : List Logged) (k : Commit) → k .op .count < 2 ^ 32 → k .seq < 2 ^ 32 → length (k .digest) ≡ 32
     → Tagger older (k .author) (commitString (k .op) (k .author) (k .seq) (k .digest) (k .status)) → Committed (onto older []) (entryOf k) (k .digest)
-committed-before older k h₁ h₂ h₃ (byMake op o n at g q) = absurd (apart op (k .op) n (k .author) (k .seq) (k .digest) (k .status) (sym q))
+committed-before older k h₁ h₂ h₃ (byMake op n q) = absurd (apart op (k .op) n (k .author) (k .seq) (k .digest) (k .status) (sym q))
 committed-before older k h₁ h₂ h₃ (byReply l o n at g₁ g₂ g₃ q) =
     let f = commit-string-fields (k .op) (l .r .current) (k .author) n (k .seq) (comSeq l) (k .digest) (comDigest l) (k .status) (comStatus l) h₁ g₁ h₂ g₂ h₃ g₃ q in
     record { k = l; o = o; at = at; op = sym (f .0); seq = sym (f .2); digest = sym (f .3); status = sym (f .4) }

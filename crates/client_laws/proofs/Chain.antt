@@ -3,13 +3,13 @@ use Prim.Native.Nat.{ℕ, zero, suc, _+_, _-_, _<_, _≤_}
 use mathlib.Core.Path.{_≡_, refl, sym, ap, _∙_}
 use mathlib.Core.Logic.{_⊎_, inl, inr, ⊎-elim}
 use mathlib.Core.List.{List}
-use mathlib.Core.Bool.{Bool, true, false}
+use mathlib.Core.Bool.{Bool, true, false, true≢false}
 use lib.Dec.{ltb, eqb}
 use lib.ListN.{length}
 use native.Mathlib.Omega.{arith}
 use native.Mathlib.Numerals.{add-one}
 use native.Mathlib.Nat.{eq-or-lt-of-le, le-of-suc-le-suc}
-use borrow.Author.Tests.{eqb-true, lt-ltb, le-ltb, ltb-true, ltb-false}
+use borrow.Author.Tests.{eqb-true, eq-eqb, lt-ltb, le-ltb, ltb-true, ltb-false}
 use Rattle.slices.specs.Bytes.{same}
 use Rattle.slices.proofs.Laws.{and-yes, same-yes}
 use Rattle.operation.specs.declared.Operation.{Operation}
@@ -18,13 +18,13 @@ use Rattle.message.specs.declared.Item.{Item}
 use Rattle.message.specs.Message.{replyCount, replyItem}
 use Rattle.verify.specs.Verify.{invokeTag, itemTagOk}
 use Rattle.replica.specs.declared.Replica.{Replica}
-use Rattle.replica.specs.Places.{valueAt, holdValue}
+use Rattle.replica.specs.Places.{valueAt, statusAt, holdValue}
 use Rattle.replica.proofs.Places.{value-put, value-kept}
 use Rattle.checks.specs.Checks.{firstNo}
 use Rattle.checks.proofs.Laws.{Yes, all-yes, first-append}
 use Rattle.client_reply.specs.Reply.{chainItem, chainTo, chainAfter}
 use Rattle.client_reply.proofs.Chain.{item-value-length, chain-length}
-use Rattle.client_reply_check.specs.ReplyChecks.{seqAt, itemValue, itemChainOk, itemChecks, itemsChecks, lastItem, replyNo}
+use Rattle.client_reply_check.specs.ReplyChecks.{seqAt, itemValue, itemChainOk, isUncommitted, itemChecks, itemsChecks, lastItem, replyNo}
 use Rattle.client_reply_check.proofs.Laws.{ItemAllowed, item-allowed, form-yes, reply-formed, items-passed, last-passed, last-yes}
 
 by-test : (a b : ℕ) (t : Bool) → ltb b a ≡ t → (a ≤ b) ⊎ (b < a)
@@ -160,6 +160,13 @@ module _ (r : Replica) (m : List ℕ) (room : ℕ) (e : replyNo r m room ≡ 0) 
         tag = same-yes _ _ (y .1 .0);
         link = chain-links (r .confirmed) (r .held) m (r .chain) l k (replyCount m) h few (y .1 .1 .0);
       }
+
+  -- an own item before the last stands where a status is held
+  pub own-committed : (k : ℕ) → k + 1 < replyCount m → replyItem m k .author ≡ r .number → statusAt (r .confirmed) k (r .statuses) ≡ 0 → ⊥
+  unfolding isUncommitted
+  own-committed k h a z =
+      let y = items-yes r m (replyCount m) (items-passed r m room e) k (omega arith) .1 .1 .1 .0 in
+      true≢false (sym (rw (eq-eqb (replyItem m k .author) (r .number) a, lt-ltb (k + 1) (replyCount m) h, eq-eqb (statusAt (r .confirmed) k (r .statuses)) 0 z) at y))
 
   -- the last item is the current operation
   pub last-current : lastItem m .op ≡ r .current

@@ -1,5 +1,5 @@
 -- The head of a line from a client, and the clients after a step of the server. Assumes nothing.
-use Prim.Native.Nat.{ℕ, suc, _+_, _≤_}
+use Prim.Native.Nat.{ℕ, suc, _+_, _<_, _≤_}
 use mathlib.Core.Path.{_≡_, sym, ap, subst, _∙_}
 use mathlib.Core.Logic.{inl, inr}
 use mathlib.Core.List.{List, [], _∷_}
@@ -15,8 +15,9 @@ use Rattle.server.specs.declared.Server.{Server}
 use Rattle.server.specs.Server.{lastCount}
 use Rattle.server_laws.proofs.Awaiting.{Uncommitted}
 use Rattle.progress.specs.HonestRuns.{Line, update}
-use Rattle.progress.proofs.Invariant.{Ghost, Downs, Asked, Sent, Asks, Lines, invokes, Client, Either}
+use Rattle.progress.proofs.Invariant.{Ghost, Downs, Asked, Sent, Asks, Lines, invokes, replySeq, Settled, Client, Either}
 use Rattle.progress.proofs.Lines.{lines-moved}
+use Rattle.progress.proofs.Settling.{settled-others}
 use Rattle.progress.proofs.Acting.{update-same, update-other}
 
 pub no-head : {A : Type 0} (m : List ℕ) (u : Line) → m ∷ u ≡ [] → A
@@ -41,8 +42,9 @@ client-of g sv n b r m u d (inr c) = no-head m u (c .none)
 
 -- a client with another server and other lines
 pub relined : (g : Ghost) (s t : Server) (n b c : ℕ) (r : Replica) (u d v e : Line) → Client g s n b r u d
-    → lastCount t n + invokes v ≡ r .count → Lines g t n c (r .current) (r .confirmed) v e → Client g t n c r v e
-relined g s t n b c r u d v e C k L =
+    → lastCount t n + invokes v ≡ r .count → Settled g (t .placed) n (r .confirmed) (r .statuses) (replySeq (r .confirmed) e)
+    → Lines g t n c (r .current) (r .confirmed) v e → Client g t n c r v e
+relined g s t n b c r u d v e C k S L =
     record {
       sound = C .sound;
       number = C .number;
@@ -51,16 +53,20 @@ relined g s t n b c r u d v e C k L =
       values = C .values;
       named = C .named;
       counted = k;
+      settled = S;
       lines = L;
     }
 
--- a client of which the server awaits what it awaited, and whose last count it has kept
+-- a client of which the server awaits what it awaited, whose last count it has kept, and of which it has placed no item
 pub client-moved : (g : Ghost) (s t : Server) (n b : ℕ) (r : Replica) (u d : Line) → ((p : ℕ) (e : Operation) → Uncommitted s n p e → Uncommitted t n p e)
-    → (1 ≤ n → lastCount t n ≡ lastCount s n) → Either g s n b r u d → Either g t n b r u d
-client-moved g s t n b r u d f k (inl C) =
+    → (1 ≤ n → lastCount t n ≡ lastCount s n) → ((q : ℕ) → s .placed ≤ q → q < t .placed → g .at (suc q) .author ≡ n → ⊥)
+    → Either g s n b r u d → Either g t n b r u d
+client-moved g s t n b r u d f k o (inl C) =
     let a : 1 ≤ n = subst (λ (x : ℕ). 1 ≤ x) (C .number) (ranged r (C .sound .range) .low) in
-    inl (relined g s t n b b r u d u d C (ap (λ (x : ℕ). x + invokes u) (k a) ∙ C .counted) (lines-moved g s t n f b (r .current) (r .confirmed) u d (C .lines)))
-client-moved g s t n b r u d f k (inr c) = inr c
+    inl (relined g s t n b b r u d u d C (ap (λ (x : ℕ). x + invokes u) (k a) ∙ C .counted)
+    (settled-others g n (r .confirmed) (r .statuses) (s .placed) (t .placed) (replySeq (r .confirmed) d) o (C .settled))
+    (lines-moved g s t n f b (r .current) (r .confirmed) u d (C .lines)))
+client-moved g s t n b r u d f k o (inr c) = inr c
 
 -- ---- the lines of client n are new
 pub lines-updated : (g : Ghost) (sv : Server) (b : ℕ) (f : ℕ → Replica) (u d : ℕ → Line) (n : ℕ) (v e : Line)

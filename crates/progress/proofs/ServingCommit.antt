@@ -1,9 +1,10 @@
 -- The world after the server stored the commit at the head of a line, and broadcast what is due. Assumes nothing.
-use Prim.Native.Nat.{ℕ, _+_, _<_}
+use Prim.Native.Nat.{ℕ, _+_, _<_, _≤_}
 use mathlib.Core.Path.{_≡_, sym, ap, subst, _∙_}
 use mathlib.Core.Logic.{inl, inr}
 use mathlib.Core.List.{List, _∷_, _++_}
 use lib.ListN.{drop}
+use native.Mathlib.Omega.{arith}
 use native.Mathlib.Decide.{ℕ-discrete}
 use Rattle.operation.specs.declared.Operation.{Operation}
 use Rattle.operation.specs.Operation.{noOp}
@@ -18,10 +19,11 @@ use Rattle.server_laws.proofs.Checks.{Storable}
 use Rattle.server_laws.proofs.Calls.{commit-long}
 use Rattle.server_laws.proofs.Awaiting.{Uncommitted, stored-kept, passed-kept}
 use Rattle.progress.specs.HonestRuns.{World, Line, update, putAll, pieces, served}
-use Rattle.progress.proofs.Invariant.{Ghost, CommitAt, Downs, Sent, Asks, invokes, Client, Either, Servers, Inv}
+use Rattle.progress.proofs.Invariant.{Ghost, CommitAt, Downs, Sent, Asks, invokes, replySeq, Settled, Client, Either, Servers, Inv}
+use Rattle.progress.proofs.Settling.{settled-others}
 use Rattle.progress.proofs.Lines.{other-from, downs-quiet, ups-quiet}
 use Rattle.progress.proofs.Storing.{stored-servers, stored-ordered, stored-passed}
-use Rattle.progress.proofs.Passing.{lines-pieces, due-commits, due-servers, passed-raised}
+use Rattle.progress.proofs.Passing.{lines-pieces, seq-pieces, due-commits, due-servers, passed-raised}
 use Rattle.progress.proofs.Heads.{sent-head, client-of, relined, client-moved, line-updated}
 
 module _ (g : Ghost) (w : World) (I : Inv g w) (n : ℕ) (m : List ℕ) (u : Line) (q : w .up n ≡ m ∷ u) (P : Storable (w .server) n m) where
@@ -72,11 +74,16 @@ module _ (g : Ghost) (w : World) (I : Inv g w) (n : ℕ) (m : List ℕ) (u : Lin
       passed-kept t (T .sizes) (O .few) j p e
       (stored-kept s (I .server .sizes) (order .few) k (P .place) (l .0) (l .1) j p e (λ x. d (x ∙ sent .0 .mine)) U)
 
+  none-placed : (p : ℕ) → s .placed ≤ p → p < v .placed → ⊥
+  unfolding passedServer storedServer
+  none-placed p a b = omega arith
+
   others : (j : ℕ) → (j ≡ n → ⊥) → Either g v j (s .passed) (w .replica j) (w .up j) (w .down j)
   others j d =
       client-moved g s v j (s .passed) (w .replica j) (w .up j) (w .down j)
       (λ p e U. kept j p e d U)
       (λ a. count-same s k (dueCount t) j)
+      (λ p a b e. absurd (none-placed p a b))
       (I .clients j)
 
   counted : lastCount v n + invokes u ≡ r .count
@@ -88,6 +95,7 @@ module _ (g : Ghost) (w : World) (I : Inv g w) (n : ℕ) (m : List ℕ) (u : Lin
   this : Client g v n (s .passed) r u (w .down n)
   this =
       relined g s v n (s .passed) (s .passed) r (m ∷ u) (w .down n) u (w .down n) client counted
+      (settled-others g n (r .confirmed) (r .statuses) (s .placed) (v .placed) (replySeq (r .confirmed) (w .down n)) (λ p a b e. absurd (none-placed p a b)) (client .settled))
       (inl (ups-quiet g s v n (r .current) u (sent .1 .0), downs-quiet g s v n (s .passed) (r .confirmed) (w .down n) (sent .1 .1)))
 
   less : (j : ℕ) → Either g v j (s .passed) (w .replica j) (update (w .up) n (drop 1 (w .up n)) j) (w .down j)
@@ -103,6 +111,7 @@ module _ (g : Ghost) (w : World) (I : Inv g w) (n : ℕ) (m : List ℕ) (u : Lin
   more : (j : ℕ) (x : Replica) (l d : Line) → Either g v j (s .passed) x l d → Either g v j (s .passed + dueCount t) x l (d ++ sends)
   more j x l d (inl C) =
       inl (relined g v v j (s .passed) (s .passed + dueCount t) x l d l (d ++ sends) C (C .counted)
+      (subst (Settled g (v .placed) j (x .confirmed) (x .statuses)) (sym (seq-pieces g v t (s .passed) (x .confirmed) d (dueCount t) due)) (C .settled))
       (lines-pieces g v t (s .passed) j (x .current) (x .confirmed) l d (dueCount t) due (C .lines)))
   more j x l d (inr c) = inr c
 

@@ -1,5 +1,5 @@
 -- The world after the server placed the item at the head of a line. Assumes nothing.
-use Prim.Native.Nat.{ℕ, suc, _+_, _≤_}
+use Prim.Native.Nat.{ℕ, suc, _+_, _<_, _≤_}
 use mathlib.Core.Path.{_≡_, refl, sym, ap, subst, _∙_}
 use mathlib.Core.Logic.{inl, inr, ⊎-elim}
 use mathlib.Core.List.{List, [], _∷_, _++_}
@@ -11,7 +11,7 @@ use Rattle.operation.specs.declared.Operation.{Operation}
 use Rattle.operation.specs.Operation.{opOk, noOp}
 use Rattle.message.specs.declared.Item.{Item}
 use Rattle.message.specs.Readers.{ItemFits}
-use Rattle.message.specs.Message.{itemAt, replyBytes}
+use Rattle.message.specs.Message.{itemAt, replyBytes, replyCount}
 use Rattle.replica.specs.declared.Replica.{Replica}
 use Rattle.replica.proofs.Laws.{ranged}
 use Rattle.server.specs.declared.Server.{Server}
@@ -21,9 +21,10 @@ use Rattle.server_laws.proofs.Range.{Ordered, ordered}
 use Rattle.server_laws.proofs.Checks.{Placeable}
 use Rattle.server_laws.proofs.Awaiting.{Uncommitted, placed-kept, placed-new}
 use Rattle.progress.specs.HonestRuns.{World, Line, putOne, written, served}
-use Rattle.progress.proofs.Invariant.{Ghost, ItemAt, Reply, Downs, Asked, Lines, invokes, Client, Either, Inv}
+use Rattle.progress.proofs.Invariant.{Ghost, ItemAt, Reply, Downs, Asked, Lines, invokes, replySeq, Settled, Client, Either, Inv}
+use Rattle.progress.proofs.Settling.{seq-none, seq-reply, settled-placed}
 use Rattle.progress.proofs.Lines.{no-op-refused, invokes-none, downs-reply, downs-quiet}
-use Rattle.progress.proofs.Placing.{fits, slot-new, slots-placed, placed-servers, replies}
+use Rattle.progress.proofs.Placing.{fits, count, slot-new, slots-placed, placed-servers, replies}
 use Rattle.progress.proofs.Heads.{asked-head, client-of, relined, client-moved, lines-updated}
 
 written-reply : (is : List Item) → written (replyBytes is) ≡ replyBytes is ∷ []
@@ -102,6 +103,19 @@ module _ (g : Ghost) (w : World) (I : Inv g w) (n : ℕ) (m : List ℕ) (u : Lin
       let c : invokes u ≡ 0 = ap invokes (head .1 .0) ∙ invokes-none in
       omega arith
 
+  -- its reply is the one on its way
+  settled : Settled g (t .placed) n (r .confirmed) (r .statuses) (replySeq (r .confirmed) (w .down n ++ (message ∷ [])))
+  unfolding placedServer
+  settled =
+      let o = order .order in
+      let D = head .1 .1 in
+      let e : s .placed + 1 ≡ s .passed + replyCount message
+      = omega (arith, count g t (s .passed) (pending s) (P .few) (slots-placed g s (I .server) order i (P .few) item)) in
+      let q = seq-reply g s n (s .passed) (r .confirmed) (w .down n) message D (reply .form) in
+      subst (Settled g (s .placed + 1) n (r .confirmed) (r .statuses)) (e ∙ sym q)
+      (settled-placed g n (r .confirmed) (r .statuses) (s .placed)
+      (subst (Settled g (s .placed) n (r .confirmed) (r .statuses)) (seq-none g s n (s .passed) (r .confirmed) (w .down n) D) (client .settled)))
+
   placed-client : Either g t n (s .passed) r (drop 1 (w .up n)) (w .down n ++ written message)
   placed-client =
       let D = downs-quiet g s t n (s .passed) (r .confirmed) (w .down n) (head .1 .1) in
@@ -109,14 +123,21 @@ module _ (g : Ghost) (w : World) (I : Inv g w) (n : ℕ) (m : List ℕ) (u : Lin
       = inr (head .1 .0, downs-reply g t n (s .passed) (r .current) (r .confirmed) (w .down n) message D reply) in
       subst (λ (l : Line). Either g t n (s .passed) r l (w .down n ++ written message)) (sym (ap (drop 1) q))
       (subst (λ (l : Line). Either g t n (s .passed) r u (w .down n ++ l)) (sym (written-reply (slotItems t (pending s + 1))))
-      (inl (relined g s t n (s .passed) (s .passed) r (m ∷ u) (w .down n) u (w .down n ++ (message ∷ [])) client counted L)))
+      (inl (relined g s t n (s .passed) (s .passed) r (m ∷ u) (w .down n) u (w .down n ++ (message ∷ [])) client counted settled L)))
 
   -- ---- the others
+  not-mine : (j : ℕ) → (j ≡ n → ⊥) → (p : ℕ) → s .placed ≤ p → p < t .placed → g .at (suc p) .author ≡ j → ⊥
+  unfolding placedServer
+  not-mine j d p a b e =
+      let z : p ≡ s .placed = omega arith in
+      d (sym e ∙ ap (λ (x : ℕ). g .at (suc x) .author) z ∙ ap (λ (x : Item). x .author) (sym G) ∙ P .author)
+
   others : (j : ℕ) → (j ≡ n → ⊥) → Either g t j (s .passed) (w .replica j) (w .up j) (w .down j)
   others j d =
       client-moved g s t j (s .passed) (w .replica j) (w .up j) (w .down j)
       (λ p e. placed-kept s (I .server .sizes) order i (P .few) fit j p e)
       (λ a. count-old s i j a low (λ x. d (x ∙ P .author)))
+      (not-mine j d)
       (I .clients j)
 
   pub placed-world : Inv g (served w n (placedStep s i) (placedStep s i .says))

@@ -1,5 +1,5 @@
 -- Laws of the places of a replica: what is held at one, what stays, and what moves when one is confirmed. Assumes nothing.
-use Prim.Native.Nat.{ℕ, _+_, _-_, _*_, _<_, _≤_}
+use Prim.Native.Nat.{ℕ, zero, suc, _+_, _-_, _*_, _<_, _≤_}
 use mathlib.Core.Path.{_≡_, refl, sym, ap, _∙_}
 use mathlib.Core.List.{List, [], _∷_, _++_, append-assoc}
 use mathlib.Core.Bool.{true}
@@ -31,6 +31,14 @@ none-held = all-drop isZero noValues 32 (all-replicate isZero 1056 0 refl)
 
 pub none-status : unusedStatuses 0 0 noStatuses ≡ true
 none-status = all-replicate isZero 32 0 refl
+
+zeros : (n j : ℕ) → getD {A = ℕ} (replicate n 0) j 0 ≡ 0
+zeros zero j = refl
+zeros (suc n) zero = refl
+zeros (suc n) (suc j) = zeros n j
+
+pub no-status : (j : ℕ) → statusAt 0 j noStatuses ≡ 0
+no-status j = zeros 32 j
 
 pub none-ok : statusesOk noStatuses ≡ true
 none-ok = all-replicate (λ x. leb x 2) 32 0 refl

@@ -1,9 +1,7 @@
 use Prim.Native.Nat.{ℕ, _≤_}
 use mathlib.Core.Path.{_≡_}
-use mathlib.Core.Bool.{true}
 use native.Mathlib.Omega.{arith}
 use borrow.Author.Needs.{needs}
-use Rattle.replica.specs.Outcome.{isHalt}
 use Rattle.replica.proofs.Laws.{halt-bounds}
 use Rattle.replica.proofs.halt_of.Statement.{statement}
 use Rattle.replica.proofs.halt_of.Tie as tie
