@@ -5,6 +5,7 @@ use mathlib.Core.List.{List, [], _∷_, _++_, List·Memᴰ}
 use mathlib.Core.Bool.{Bool, true}
 use native.Mathlib.Omega.{arith}
 use lib.Dec.{leb, eqb}
+use borrow.Author.Tests.{eq-eqb}
 use Rattle.operation.specs.Operation.{Response, sameOp, responseOn, runAll}
 use Rattle.conflict.specs.Conflict.{conflicts}
 use Rattle.message.specs.declared.Item.{Item}
@@ -12,21 +13,22 @@ use Rattle.message.specs.Readers.{ItemFits, none, more}
 use Rattle.message.specs.Message.{chainString, replyBytes, isReply, replyItem, replyItems}
 use Rattle.round_trips.proofs.Messages.{reply-yes, reply-read}
 use Rattle.verify.specs.Verify.{linkValue}
-use Rattle.replica.specs.Places.{valueAt}
+use Rattle.replica.specs.Places.{valueAt, statusAt}
 use Rattle.replica.specs.declared.Replica.{Replica}
 use Rattle.checks.specs.Checks.{every}
 use Rattle.replica.specs.Replica.{inRange}
 use Rattle.checks.proofs.Laws.{Yes, every-each}
 use Rattle.replica.proofs.Laws.{Sized}
-use Rattle.client_reply_check.specs.ReplyChecks.{itemValue, itemChecks, lastOk, replyNo}
+use Rattle.client_reply_check.specs.ReplyChecks.{listedOk, itemValue, isUncommitted, itemProofChecks, itemChecks, itemsChecks, lastOk, replyNo}
 use Rattle.client_reply.specs.Reply.{chainAfter, sortItem, sortTo, isAborted, lastResponse}
 use Rattle.client_laws.proofs.Chain.{item-taken, values-stay}
 use Rattle.client_laws.proofs.Passes.{reply-passes}
-use Rattle.agreement.specs.WholeRuns.{messageOf, Logged, itemStrings, strings, Carried, itemCarried, itemTags, tags}
+use Rattle.client_laws.proofs.Uncommitted.{haltStep, uncommitted-halts}
+use Rattle.agreement.specs.WholeRuns.{receive, messageOf, stepOf, Logged, itemStrings, strings, Carried, itemCarried, itemTags, tags}
 use Rattle.agreement.proofs.Events.{taken-reply}
 use Rattle.agreement_runs.proofs.Shown as S
 use Rattle.agreement_runs.proofs.Shown.{Shows}
-use Rattle.agreement_runs.proofs.Replies.{replyEvent}
+use Rattle.agreement_runs.proofs.Replies.{replyEvent, halt-step}
 
 -- ---- one item
 module _ (r : Replica) (i : Item) (f : ItemFits i) where
@@ -107,6 +109,17 @@ module _ (r : Replica) (i j : Item) (f : ItemFits i) (g : ItemFits j) where
       last =
           (λ t. every true (leb 1 2 ∷ sameOp (second-item t .op) (r .current) ∷ eqb (second-item t .author) (r .number) ∷ []))
           ∙ every-each (leb 1 2 ∷ sameOp (j .op) (r .current) ∷ eqb (j .author) (r .number) ∷ []) (refl, (p, (q, tt)))
+
+  -- its first item is the client's own, where it has not committed
+  pub two-halts : (n : ℕ) → inRange r ≡ true → r .halt ≡ 0 → Yes ((listedOk (r .confirmed) 0 i, 21) ∷ itemProofChecks r 0 i)
+      → isUncommitted (r .number) (statusAt (r .confirmed) 0 (r .statuses)) 2 0 i ≡ true
+      → stepOf r (receive n (replyBytes (i ∷ j ∷ [])) 80) ≡ haltStep r 26
+  unfolding replyBytes itemsChecks
+  two-halts n range clear y u =
+      halt-step n r (i ∷ j ∷ []) 26 two-form
+      (uncommitted-halts r two 80 0 (omega arith) (rw (range, eq-eqb (r .halt) 0 clear, two-form))
+      (subst (λ (i : Item). Yes ((listedOk (r .confirmed) 0 i, 21) ∷ itemProofChecks r 0 i)) (sym first-item) y)
+      (subst (λ (i : Item). isUncommitted (r .number) (statusAt (r .confirmed) 0 (r .statuses)) 2 0 i ≡ true) (sym first-item) u))
 
   -- whether it is aborted, and its response, by the first item
   pub two-aborted : isAborted r (replyBytes (i ∷ j ∷ []))

@@ -5,6 +5,5 @@ pub mod Items
 pub mod TwoAuthors
 pub mod TwoAuthorsSteps
 pub mod Witness
-pub mod ListedEarly
-pub mod ListedEarlySteps
-pub mod InTags
+pub mod OldPlace
+pub mod EarlyCommit

@@ -14,7 +14,7 @@ use Rattle.replica.specs.Places.{valueAt}
 use Rattle.replica.proofs.Places.{first-value}
 use Rattle.replica.proofs.Laws.{Sound}
 use Rattle.client_broadcast.specs.Broadcast.{commitOk, nextValue, confirmedReplica}
-use Rattle.client_reply_check.specs.ReplyChecks.{listedOk, itemChainOk, replyNo}
+use Rattle.client_reply_check.specs.ReplyChecks.{listedOk, itemChainOk, isUncommitted, replyNo}
 use Rattle.client_reply.specs.Reply.{chainAfter, sortItem, sortTo, isAborted, lastResponse, repliedReplica}
 use Rattle.client_laws.proofs.Invoke.{open-sound}
 use Rattle.client_laws.proofs.Chain.{values-stay}
@@ -39,8 +39,8 @@ module _ (keys : List ℕ) (L : length keys ≡ 256) where
   sa₁ = sound-after (a₀ keys) (invoke 1 5 0 7 251 43) sa₀ step₁
 
   pub passes₁ : replyNo (a₁ keys) (replyBytes (i₁ keys ∷ [])) 80 ≡ 0
-  unfolding listedOk opOk allowed lastByteOk tempOk signed sameOp itemChainOk
-  passes₁ = one-passes (a₁ keys) (i₁ keys) (f₁ keys) (sa₁ .range) refl (item-passes (a₁ keys) 1 0 o₁ 1 refl refl) refl refl
+  unfolding listedOk opOk allowed lastByteOk tempOk signed sameOp itemChainOk isUncommitted
+  passes₁ = one-passes (a₁ keys) (i₁ keys) (f₁ keys) (sa₁ .range) refl (item-passes (a₁ keys) 1 0 o₁ 1 refl refl refl) refl refl
 
   pub step₂ : stepOf (a₁ keys) (receive 1 (replyBytes (i₁ keys ∷ [])) 80) ≡ replyEvent 1 (a₁ keys) (i₁ keys ∷ []) 1 false (pos 1) .step
   unfolding replyBytes isAborted lastResponse sortTo conflicts interleavings some responses sameResponses responseOn response valueResponse runAll
@@ -67,7 +67,7 @@ module _ (keys : List ℕ) (L : length keys ≡ 256) where
   unfolding repliedReplica commitOk opOk allowed lastByteOk tempOk signed
   step₅ = confirm-step (a₂ keys) (k₁ keys) (g₁ keys) 1 (confirm-passes (a₂ keys) o₁ 1 1 v₁ 1 (g₁ keys) (sa₂ .range) refl refl refl next₅)
 
-  sa₃ : Sound (a₃ keys)
+  pub sa₃ : Sound (a₃ keys)
   sa₃ = sound-after (a₂ keys) (receive 1 (broadcastBytes (k₁ keys)) 0) sa₂ step₅
 
   pub a₃-zero : valueAt (a₃ keys .confirmed) 0 (a₃ keys .chain) ≡ v₁
@@ -93,8 +93,8 @@ module _ (keys : List ℕ) (L : length keys ≡ 256) where
   sb₁ = sound-after (b₀ keys) (invoke 2 6 0 0 0 43) sb₀ step₃
 
   pub passes₂ : replyNo (b₁ keys) (replyBytes (i₁ keys ∷ i₂ keys ∷ [])) 80 ≡ 0
-  unfolding listedOk opOk allowed lastByteOk tempOk signed sameOp itemChainOk
-  passes₂ = two-passes (b₁ keys) (i₁ keys) (i₂ keys) (f₁ keys) (f₂ keys) (sb₁ .range) refl (item-passes (b₁ keys) 2 0 o₁ 1 refl refl) (item-passes (b₁ keys) 2 1 o₂ 2 refl refl) refl refl
+  unfolding listedOk opOk allowed lastByteOk tempOk signed sameOp itemChainOk isUncommitted
+  passes₂ = two-passes (b₁ keys) (i₁ keys) (i₂ keys) (f₁ keys) (f₂ keys) (sb₁ .range) refl (item-passes (b₁ keys) 2 0 o₁ 1 refl refl refl) (item-passes (b₁ keys) 2 1 o₂ 2 refl refl refl) refl refl
 
   aborts : isAborted (b₁ keys) (replyBytes (i₁ keys ∷ i₂ keys ∷ [])) ≡ true
   unfolding sortItem conflicts interleavings insertions some responses sameResponses responseOn response signed after temp flatMap

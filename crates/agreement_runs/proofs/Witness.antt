@@ -84,7 +84,7 @@ module _ (keys : List ℕ) (L : length keys ≡ 256) where
   log-is = run-is the-run
 
   -- ---- who tagged what
-  made₁ : (older : List Logged) → List·Memᴰ (e₁ keys) older → Tagged keys older 1 (invokeString o₁ 1)
+  pub made₁ : (older : List Logged) → List·Memᴰ (e₁ keys) older → Tagged keys older 1 (invokeString o₁ 1)
   unfolding caller invokeTag tagBy
   made₁ older m = record { event = e₁ keys; mem = m; by = refl; wrote = made-wrote (e₁ keys) 5 0 7 251 refl }
 
@@ -92,7 +92,7 @@ module _ (keys : List ℕ) (L : length keys ≡ 256) where
   unfolding caller invokeTag tagBy
   made₂ older m = record { event = e₃ keys; mem = m; by = refl; wrote = made-wrote (e₃ keys) 6 0 0 0 refl }
 
-  committed₁ : (older : List Logged) → List·Memᴰ (e₂ keys) older → Tagged keys older 1 (commitString o₁ 1 1 v₁ 1)
+  pub committed₁ : (older : List Logged) → List·Memᴰ (e₂ keys) older → Tagged keys older 1 (commitString o₁ 1 1 v₁ 1)
   unfolding caller
   committed₁ older m = record { event = e₂ keys; mem = m; by = refl; wrote = reply-wrote (a₁ keys) (replyBytes (i₁ keys ∷ [])) 1 false v₁ (a₂-one keys L) }
 
@@ -101,7 +101,7 @@ module _ (keys : List ℕ) (L : length keys ≡ 256) where
   committed₂ older m = record { event = e₄ keys; mem = m; by = refl; wrote = reply-wrote (b₁ keys) (replyBytes (i₁ keys ∷ i₂ keys ∷ [])) 2 true v₂ (b₂-two keys L) }
 
   -- ---- not let off
-  is-first : {v : List ℕ} → v ≡ replicate 32 0 → List·Memᴰ (chainString v o₁ 1 1) (S₁ ∷ S₂ ∷ [])
+  pub is-first : {v : List ℕ} → v ≡ replicate 32 0 → List·Memᴰ (chainString v o₁ 1 1) (S₁ ∷ S₂ ∷ [])
   is-first q = List·Memᴰ·head (ap (λ (v : List ℕ). chainString v o₁ 1 1) q)
 
   is-second : {v : List ℕ} → v ≡ v₁ → List·Memᴰ (chainString v o₂ 2 2) (S₁ ∷ S₂ ∷ [])

@@ -4,4 +4,5 @@ pub mod Chain
 pub mod Reply
 pub mod Alone
 pub mod Passes
+pub mod Uncommitted
 pub mod Calls
