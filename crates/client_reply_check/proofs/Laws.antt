@@ -18,7 +18,7 @@ use Rattle.checks.proofs.Laws.{first-stays, first-append, first-zero, all-yes, 
 use Rattle.replica.specs.Outcome.{isStop}
 use Rattle.replica.specs.Replica.{inRange}
 use Rattle.replica.proofs.Laws.{ranged}
-use Rattle.client_reply_check.specs.ReplyChecks.{seqAt, listedOk, itemProofChecks, itemOwnChecks, itemChecks, itemsChecks, lastItem, lastOk, replyFormChecks, lastChecks, replyNo}
+use Rattle.client_reply_check.specs.ReplyChecks.{seqAt, listedOk, itemRestChecks, itemChecks, itemsChecks, lastItem, lastOk, replyFormChecks, lastChecks, replyNo}
 
 -- ---- an item's checks
 pub record ItemAllowed (c k : ℕ) (i : Item) : Type 0 where
@@ -34,7 +34,7 @@ item-allowed c k i e =
     record { op = y .0; low = leb-true _ _ (y .1 .0); high = leb-true _ _ (y .1 .1 .0); seq = leb-true _ _ (y .1 .1 .1 .0) }
 
 module _ (r : Replica) (n k : ℕ) (i : Item) where
-  pub item-goes : listedOk (r .confirmed) k i ≡ true → firstNo (firstNo 0 (itemProofChecks r k i)) (itemOwnChecks r n k i) ≡ firstNo 0 (itemChecks r n k i)
+  pub item-goes : listedOk (r .confirmed) k i ≡ true → firstNo 0 (itemRestChecks r n k i) ≡ firstNo 0 (itemChecks r n k i)
   item-goes e = rw e
 
   pub item-stops : listedOk (r .confirmed) k i ≡ false → 21 ≡ firstNo 0 (itemChecks r n k i)

@@ -39,11 +39,11 @@ isUncommitted number status n k i = every true (eqb (i .author) number ∷ ltb (
 abbrev pub itemProofChecks : Replica → ℕ → Item → List (Bool × ℕ)
 itemProofChecks r k i = (itemTagOk (r .keys) i, 22) ∷ (itemChainOk (r .confirmed) (r .held) (r .chain) k i, 23) ∷ []
 
-abbrev pub itemOwnChecks : Replica → ℕ → ℕ → Item → List (Bool × ℕ)
-itemOwnChecks r n k i = (not (isUncommitted (r .number) (statusAt (r .confirmed) k (r .statuses)) n k i), 26) ∷ []
+abbrev pub itemRestChecks : Replica → ℕ → ℕ → Item → List (Bool × ℕ)
+itemRestChecks r n k i = itemProofChecks r k i ++ ((not (isUncommitted (r .number) (statusAt (r .confirmed) k (r .statuses)) n k i), 26) ∷ [])
 
 abbrev pub itemChecks : Replica → ℕ → ℕ → Item → List (Bool × ℕ)
-itemChecks r n k i = (listedOk (r .confirmed) k i, 21) ∷ (itemProofChecks r k i ++ itemOwnChecks r n k i)
+itemChecks r n k i = (listedOk (r .confirmed) k i, 21) ∷ itemRestChecks r n k i
 
 -- those of the first k items
 unfoldable pub itemsChecks : Replica → List ℕ → ℕ → List (Bool × ℕ)

@@ -4,7 +4,7 @@ ghost use Prim.Native.Nat.{_+_, _<_, _≤_};
 ghost use Rattle.operation.specs.Operation.{maxPending};
 ghost use Rattle.message.specs.Layout.{clientCount, maxSeq};
 ghost use Rattle.checks.specs.Checks.{firstNo};
-ghost use Rattle.client_reply_check.specs.ReplyChecks.{listedOk, itemValue, itemChainOk, isUncommitted, itemProofChecks, itemChecks};
+ghost use Rattle.client_reply_check.specs.ReplyChecks.{listedOk, itemValue, itemChainOk, isUncommitted, itemRestChecks, itemChecks};
 ghost use Rattle.client_reply_check.specs.Parts.{withParts};
 ghost use Rattle.key_table.specs.KeyTable.{StateOf};
 ghost use Rattle.replica.specs.declared.Replica.{Replica};
@@ -51,28 +51,36 @@ fn item_chain_ok(c: u32, held: u32, chain: &[u8; replica::CHAIN_LENGTH], k: usiz
     }
 }
 
-// Tag and chain of item `k`, once its content is allowed; its author's tags start from `s`.
-fn item_proof(
-    c: u32,
-    held: u32,
-    chain: &[u8; replica::CHAIN_LENGTH],
-    k: usize,
-    i: Item,
-    s: Keyed,
-) -> u8
-    requires { ⌜ (k < maxPending) × (c ≤ maxSeq) ⌝ }
-    ensures { λ q. ⌜ ((r : Replica) → StateOf (r .keys) (i .author) s → q ≡ firstNo 0 (itemProofChecks (withParts r (r .number) c held (now (chain .entry)) (r .statuses)) k i)) ⌝ }
-{
-    let q = checks::also(0, verify::item_tag_ok(s, i), 22);
-    checks::also(q, item_chain_ok(c, held, chain, k, i), 23)
-}
-
 // Whether item `k` of `n` is the client's own, is not the last, and stands where no status is held.
 fn is_uncommitted(number: u8, status: u8, n: usize, k: usize, i: Item) -> bool
     requires { ⌜ k < maxPending ⌝ }
     ensures { λ r. ⌜ r ≡ isUncommitted number status n k i ⌝ }
 {
     (i.author == number) & (k + 1 < n) & (status == 0)
+}
+
+// Tag, chain and status of item `k` of `n`, once its content is allowed; its author's tags start from `s`.
+fn item_proof(
+    number: u8,
+    c: u32,
+    held: u32,
+    chain: &[u8; replica::CHAIN_LENGTH],
+    statuses: &[u8; operation::MAX_PENDING],
+    n: usize,
+    k: usize,
+    i: Item,
+    s: Keyed,
+) -> u8
+    requires { ⌜ (k < maxPending) × (c ≤ maxSeq) ⌝ }
+    ensures { λ q. ⌜ ((r : Replica) → StateOf (r .keys) (i .author) s
+        → q ≡ firstNo 0 (itemRestChecks (withParts r number c held (now (chain .entry)) (now (statuses .entry))) n k i)) ⌝ }
+{
+    let tagged = verify::item_tag_ok(s, i);
+    let linked = item_chain_ok(c, held, chain, k, i);
+    let left = is_uncommitted(number, statuses[k], n, k, i);
+    let q = checks::also(0, tagged, 22);
+    let p = checks::also(q, linked, 23);
+    checks::also(p, !left, 26)
 }
 
 // The checks of item `k` of `n`.
@@ -92,8 +100,7 @@ fn item_check(
         → q ≡ firstNo 0 (itemChecks (withParts r number c held (now (chain .entry)) (now (statuses .entry))) n k i)) ⌝ }
 {
     if listed_ok(c, k, i) {
-        let q = item_proof(c, held, chain, k, i, s);
-        checks::also(q, !is_uncommitted(number, statuses[k], n, k, i), 26)
+        item_proof(number, c, held, chain, statuses, n, k, i, s)
     } else {
         21
     }
