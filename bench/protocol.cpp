@@ -190,12 +190,19 @@ static Message damaged(Message m) {
     if (drawn() % 60 == 0) m.resize(drawn() % (m.size() + 1));
     return m;
 }
+// A RE that lists an operation once more, before its last item.
+static Message relisted(Message m, const Message &in) {
+    ++m[2];
+    m.insert(m.end() - COP_ITEM, in.begin() + 2, in.end());
+    return m;
+}
 static void agree() {
-    unsigned calls = 0, negative = 0, said[COP_BROADCAST + 1] = {};
+    unsigned calls = 0, negative = 0, uncommitted = 0, said[COP_BROADCAST + 1] = {};
     for (int run = 0; run < 300; ++run) {
         Servers server;
         Clients cs[3] = {clients(1), clients(2), clients(3)};
         std::deque<Message> up[3], down[3];
+        std::vector<Message> ins; // all that were written
         for (int step = 0; step < 300; ++step) {
             int v = drawn() % 3, what = drawn() % 4;
             size_t room = drawn() % 20 ? sizeof out : drawn() % 100;
@@ -205,7 +212,7 @@ static void agree() {
                 if (drawn() % 30 == 0) o.kind = drawn() % 256;
                 if (drawn() % 30 == 0) o.last = drawn() % 256;
                 s = together("invoke", cs[v], [&](auto &c) { return c.invoke(o.kind, o.cell, o.amount, o.last, out, room); });
-                if (s.what == COP_INVOKED) up[v].emplace_back(out, out + COP_IN);
+                if (s.what == COP_INVOKED) up[v].emplace_back(out, out + COP_IN), ins.push_back(up[v].back());
             } else if (what == 1 && !up[v].empty()) {
                 Message m = damaged(up[v].front());
                 s = together("serve", server, [&](auto &x) { return x.serve(v + 1, m.data(), m.size(), out, room); });
@@ -215,16 +222,17 @@ static void agree() {
                 if (s.what != COP_REFUSED) up[v].pop_front();
             } else if (what >= 2 && !down[v].empty()) {
                 Message m = drawn() % 10 ? down[v].front() : damaged(down[v].front());
+                if (m == down[v].front() && m[0] == 'R' && m[2] < 32 && drawn() % 20 == 0) m = relisted(m, ins[drawn() % ins.size()]);
                 s = together("receive", cs[v], [&](auto &c) { return c.receive(m.data(), m.size(), out, room); });
                 if (s.what == COP_RESPONDED || s.what == COP_ABORTED) up[v].emplace_back(out, out + COP_CO);
                 if (s.what != COP_REFUSED) down[v].pop_front();
             } else
                 continue;
-            calls++, said[s.what]++, negative += s.what == COP_RESPONDED && s.second < 0;
+            calls++, said[s.what]++, negative += s.what == COP_RESPONDED && s.second < 0, uncommitted += s.number == COP_HALT_UNCOMMITTED;
         }
     }
-    printf("%u drawn calls agree: %u refused, %u halted, %u responses (%u negative), %u aborts, %u confirmations\n", calls, said[COP_REFUSED],
-           said[COP_HALTED], said[COP_RESPONDED], negative, said[COP_ABORTED], said[COP_CONFIRMED]);
+    printf("%u drawn calls agree: %u refused, %u halted (%u with 26), %u responses (%u negative), %u aborts, %u confirmations\n", calls,
+           said[COP_REFUSED], said[COP_HALTED], uncommitted, said[COP_RESPONDED], negative, said[COP_ABORTED], said[COP_CONFIRMED]);
 }
 
 // ---- rows

@@ -1,6 +1,6 @@
 // The client and the server of COP written plainly in C++, over a hash H: the yardstick of bench/protocol.cpp.
-// With Checked, every question of document 01; without, all but question 8 (fields in range), as one would leave it out of a class
-// whose state nobody else writes.
+// With Checked, every question of document 01 and Q-4's; without, all but question 8 (fields in range), as one would leave it out of
+// a class whose state nobody else writes.
 #pragma once
 #include "../include/cop.h"
 #include "shifts.h"
@@ -33,6 +33,7 @@ inline bool may(int kind, int cell, int amount, uint8_t last) {
 }
 inline bool allowed(const Op &o) { return 1 <= o.count && o.count <= COP_COUNT_MOST && may(o.kind, o.cell, o.amount, o.last); }
 inline bool author_allowed(int a) { return 1 <= a && a <= 8; }
+inline bool is_halt(int n) { return COP_HALT_FORM <= n && n <= COP_HALT_UNCOMMITTED; }
 
 // Runs an operation on the cells, and gives its response.
 inline int run(const Op &o, cop_cells &cells) {
@@ -84,7 +85,7 @@ template <class H, bool Checked> struct Client {
 
     bool in_range() const {
         if (!author_allowed(number) || count > COP_COUNT_MOST || confirmed > COP_COUNT_MOST || held > 32) return false;
-        if (confirmed + held > COP_COUNT_MOST || (halt != 0 && (halt < 20 || halt > 25))) return false;
+        if (confirmed + held > COP_COUNT_MOST || (halt != 0 && !is_halt(halt))) return false;
         if (busy ? !allowed(current) : !zero(&current, sizeof current)) return false;
         for (uint32_t k = 0; k < held; ++k)
             if (statuses[k] > 2) return false;
@@ -140,8 +141,10 @@ template <class H, bool Checked> struct Client {
             if (k < held && after[k + 1] != chain[k + 1]) return halted(23);
             if (author != number)
                 others.push_back(op);
-            else if (k + 1 < n && k < held && statuses[k] == 1)
-                own.push_back(op);
+            else if (k + 1 < n) {
+                if (statuses[k] == 0) return halted(26); // past those held all are 0
+                if (statuses[k] == 1) own.push_back(op);
+            }
         }
         if (n == 0 || !busy || !(op == current) || author != number) return halted(24);
         own.push_back(op);

@@ -24,7 +24,9 @@
    backup or a copy: what a lost or doubled laptop might still have sent would then be sent again with other contents. Where
    the record is lost, that number is out of use. The server's state is kept in the same way, with the lines to the clients.
    Padding in a struct is not part of the state: compare fields, not bytes. A cop_replica of the library without temperatures has
-   1,388 bytes; with sixteen zero bytes put in after its first 1,384 it is one of this library.
+   1,388 bytes; with sixteen zero bytes put in after its first 1,384 it is one of this library. A replica with halt mark 26 is out of
+   range (8) for a library without that check; one that such a library left is in range here, and halts with 26 where a RE lists an own
+   operation that it had passed over for want of a status.
 
    Temperatures. A library without kinds 5 and 6 halts with 21 at an operation of either kind, and its server refuses one with 30: bring
    this one to all clients and the server before the first is invoked.
@@ -114,6 +116,7 @@ enum {
     COP_HALT_CHAIN = 23,       /* hash chain not the one held */
     COP_HALT_LAST = 24,        /* a RE that does not end in the current operation */
     COP_HALT_SEQ = 25,         /* a BR that is not the next */
+    COP_HALT_UNCOMMITTED = 26, /* a RE with an own operation, not its last, where no status is held */
     COP_REFUSED_FORM = 30,     /* server: neither an IN nor a CO, or its content not allowed */
     COP_REFUSED_LINE = 31,     /* server: author not the client of that line */
     COP_REFUSED_NEXT = 32,     /* server: count not one above the last placed */
@@ -178,7 +181,8 @@ cop_opened cop_open(uint8_t number, const uint8_t *keys, size_t keys_n);
 cop_said cop_invoke(cop_replica *r, uint8_t kind, uint8_t cell, uint8_t amount, uint8_t last, uint8_t *out, size_t out_n);
 
 /* Takes a message from the server. A RE: its CO goes to the front of out, of COP_CO bytes or more; COP_RESPONDED, COP_ABORTED, or 8, 3,
-   20, 7, 21 to 24. A BR: out may have length 0; COP_CONFIRMED, or 8, 3, 20, 21, 25, 22, 23. */
+   20, 7, then for each item in turn 21, 22, 23, 26, and after all items 24. A BR: out may have length 0; COP_CONFIRMED, or 8, 3, 20,
+   21, 25, 22, 23. */
 cop_said cop_receive(cop_replica *r, const uint8_t *m, size_t m_n, uint8_t *out, size_t out_n);
 
 /* A fresh server. */

@@ -1,4 +1,4 @@
-"""Document 01's van and relay, with document 02's Q-1 and Q-2, in plain Python, written from their text alone.
+"""Document 01's van and relay, with document 02's Q-1, Q-2 and Q-4, in plain Python, written from their text alone.
 
 A second implementation to hold the proved one against: slow, with nothing shared. It keeps document
 01's words (docs/GLOSSARY.md gives the terms of the field), so that it can be read beside the text.
@@ -16,6 +16,7 @@ CELLS = 16
 ADD, TAKE, READ, SET, SET_WITH_TEMP, READ_TEMP = 1, 2, 3, 4, 5, 6
 COLDEST, WARMEST = -40, 85  # temperatures
 DONE, ASIDE = 1, 0
+HALTS = range(20, 27)  # the numbers that are halts: "20 to 25 are halts", and document 02's Q-4 has 26
 
 
 # Cells and entries
@@ -320,6 +321,10 @@ class Book:
     def held(self):
         return len(self.statuses)
 
+    def status(self, k):
+        """The own status held for place c + k, or None."""
+        return self.statuses[k - 1] if k <= self.held() else None
+
 
 NO_BOOK = Book()  # "A refused opening gives an all-zero book."
 
@@ -338,7 +343,7 @@ def book_in_range(book):
         and all(status in (1, 0, None) for status in book.statuses)
         and all(0 <= value <= 255 for value in book.cells.values)
         and all(map(temperature_allowed, book.cells.temperatures))
-        and (book.halt == 0 or 20 <= book.halt <= 25)
+        and (book.halt == 0 or book.halt in HALTS)
     )
 
 
@@ -409,6 +414,7 @@ def is_br(m):
 
 
 def halted(book, n, out):
+    assert n in HALTS
     return replace(book, halt=n), ("halt", n), out
 
 
@@ -418,6 +424,7 @@ def same(a, b):
 
 def take_re(book, message, out):
     items = [item_of(message[3 + 41 * k : 44 + 41 * k]) for k in range(message[2])]
+    n = len(items)
     # Item by item, at places c + 1, c + 2 and on.
     chain = list(book.chain)
     for k, item in enumerate(items, 1):
@@ -432,8 +439,10 @@ def take_re(book, message, out):
                 return halted(book, 23, out)
         else:
             chain.append(value)
+        # "26, for each `RE` item after 23, if it is this van's own, isn't the last, and no status is held for its place"
+        if item.author == book.number and k < n and book.status(k) is None:
+            return halted(book, 26, out)
     # After all.
-    n = len(items)
     if not (n >= 1 and items[-1].entry == book.hand and items[-1].author == book.number):
         return halted(book, 24, out)
 
@@ -441,8 +450,8 @@ def take_re(book, message, out):
     others = [item.entry for item in items if item.author != book.number]
     own = [
         item.entry
-        for k, item in enumerate(items[:-1])
-        if item.author == book.number and statuses[k] == DONE
+        for k, item in enumerate(items[:-1], 1)
+        if item.author == book.number and book.status(k) == DONE
     ] + [book.hand]
     place = book.c + n
     if conflict(others, own, book.cells):

@@ -2,7 +2,7 @@
 this. Every outcome, every field of the state and every byte of the out buffer is compared.
 
 It prints how often each outcome was seen, by call and kind of run, and fails at the first difference, at a broken claim
-of demand 3, or where one of document 01's numbers was not seen. Equal CALLS and SEED give equal calls everywhere.
+of demand 3, or where one of the numbers was not seen. Equal CALLS and SEED give equal calls everywhere.
 """
 
 import pathlib
@@ -11,6 +11,7 @@ import time
 from concurrent.futures import ProcessPoolExecutor
 from concurrent.futures.process import BrokenProcessPool
 
+import cop
 from drawn_runs import Drawn, honest
 from drawn_states import states
 from hostile_runs import hostile, with_keys
@@ -20,7 +21,7 @@ PATH = str(pathlib.Path(__file__).resolve().parent.parent / "target" / "tests" /
 RUNS = {"honest": honest, "hostile": hostile, "with keys": with_keys, "states": states}
 KINDS = tuple(RUNS)
 ORDER = (0, 1, 3, 2, 1, 3, 0, 1)  # kinds of run, over and over
-NUMBERS = (*range(1, 10), *range(20, 26), *range(30, 37))
+NUMBERS = (*range(1, 10), *cop.HALTS, *range(30, 37))
 SUCCESSES = ("opened", "made", "answer", "failed", "negative", "aside", "confirm", "fresh", "placed", "passed", "digest", "tag")
 
 

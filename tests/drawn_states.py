@@ -40,10 +40,16 @@ class BookCase:
         self.cells = d.one_of(((0,), (4, 5), tuple(range(16)), tuple(range(16))))
         self.amounts = d.one_of(((0, 1), (0, 1, 2, 7, 90), tuple(range(256))))
         self.van = 1 + d.below(8)
+        strays = d.chance(4)  # whether own entries may stand where no status is held
         c = drawn_count(d)
         held = min(d.one_of((0, 0, 1, 2, 5, 31, 32, d.below(33))), LIMIT - c)
         more = d.below(33 - held) if d.chance(3) else d.below(min(3, 33 - held))
-        self.items = [drawn_item(d, self.keys, self.cells, self.amounts) for _ in range(min(31, held + more))]
+        authors = tuple(range(1, 9)) + (self.van,) * d.below(5)
+        others = tuple(author for author in authors if author != self.van)
+        self.items = [
+            drawn_item(d, self.keys, self.cells, self.amounts, d.one_of(authors if k < held or strays else others))
+            for k in range(min(31, held + more))
+        ]
         chain = [d.bytes(32)]
         for k, item in enumerate(self.items, 1):
             chain.append(cop.chain_value(chain[-1], item.entry, (c + k) % (1 << 32), item.author))
@@ -66,9 +72,12 @@ class BookCase:
             hand=hand,
             c=c,
             chain=tuple(chain[: held + 1]),
-            statuses=tuple(d.one_of((1, 1, 0, None)) for _ in range(held)),
+            statuses=tuple(
+                d.one_of((1, 1, 0) if item.author == self.van and item is not self.items[-1] and not strays else (1, 1, 0, None))
+                for item in self.items[:held]
+            ),
             cells=Cells(tuple(d.below(256) for _ in range(16)), tuple(d.one_of(degrees) for _ in range(16))),
-            halt=d.one_of((20, 21, 22, 23, 24, 25)) if d.chance(15) else 0,
+            halt=d.one_of(cop.HALTS) if d.chance(15) else 0,
         )
 
     def message(self):
@@ -107,7 +116,7 @@ def garbage(d, layout, fields):
     elif layout is REPLICA and what <= 2:
         numbers = (0, 260, 263, 264, 267, 268, 269, 270, 271, 271, 272, 275, 276, 279, 1400)
         at = d.one_of((*numbers, 280 + d.below(1056), 1336 + d.below(32), *(1384 + d.below(16) for _ in range(3))))
-        data[at] = d.one_of((0, 1, 2, 3, 5, 6, 7, 8, 9, 16, 19, 26, 32, 33, 255, *LAST_BYTES))
+        data[at] = d.one_of((0, 1, 2, 3, 5, 6, 7, 8, 9, 16, 19, 26, 27, 32, 33, 255, *LAST_BYTES))
     elif layout is SERVER and what <= 2:
         slot = d.below(32)
         numbers = (0, 3, 4, 7, 8 + d.below(32), 40 + 41 * slot + d.below(9), 1352 + slot)

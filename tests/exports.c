@@ -33,8 +33,20 @@ static void broadcast(uint8_t *m) {
     m[0] = 'B', m[1] = 'R';
 }
 
+/* a RE that lists an old operation of this client's once more, before the current one; a halt mark past the last is out of range */
+static void uncommitted(cop_replica r, const uint8_t *old, const uint8_t *current) {
+    uint8_t re[3 + 2 * COP_ITEM] = {'R', 'E', 2}, out[COP_CO] = {0};
+    memcpy(re + 3, old, COP_ITEM), memcpy(re + 3 + COP_ITEM, current, COP_ITEM);
+    EXPECT(halted(cop_receive(&r, re, sizeof re, out, sizeof out), COP_HALT_UNCOMMITTED) && r.halt == COP_HALT_UNCOMMITTED);
+    EXPECT(out[0] == 0 && r.held == 0 && r.current.count == 2);
+    EXPECT(refused(cop_receive(&r, re, sizeof re, out, sizeof out), COP_REFUSED_HALT_MARK));
+    r.halt = COP_HALT_UNCOMMITTED + 1;
+    EXPECT(refused(cop_receive(&r, re, sizeof re, out, sizeof out), COP_REFUSED_RANGE));
+}
+
 static void client(void) {
     uint8_t in[COP_IN] = {0}, co[COP_CO] = {0}, re[COP_SERVE_MOST] = {0}, br[COP_SERVE_MOST] = {0}, bad[COP_SERVE_MOST], same[COP_CO] = {0};
+    uint8_t first[COP_ITEM];
     cop_opened none = cop_open(9, keys, sizeof keys);
     EXPECT(refused(none.said, COP_REFUSED_NUMBER) && none.replica.number == 0 && none.replica.keys[255] == 0);
     EXPECT(refused(cop_open(1, keys, 255).said, COP_REFUSED_KEYS));
@@ -52,7 +64,7 @@ static void client(void) {
     EXPECT(refused(cop_invoke(&r, COP_SET, 15, 7, 0, in, sizeof in), COP_REFUSED_CURRENT));
 
     EXPECT(is(cop_serve(&s, 1, in, sizeof in, re, sizeof re), COP_PLACED, 0, 1, 0) && memcmp(re, "RE\1", 3) == 0 && s.placed == 1 && s.counts[0] == 1);
-    q = r;
+    memcpy(first, re + 3, COP_ITEM), q = r;
     EXPECT(halted(cop_receive(&q, re, 43, co, sizeof co), COP_HALT_FORM) && q.halt == COP_HALT_FORM && q.count == 1);
     EXPECT(refused(cop_receive(&q, re, 44, co, sizeof co), COP_REFUSED_HALT_MARK));
     memcpy(bad, re, 44), bad[7] = 9, q = r;
@@ -76,6 +88,7 @@ static void client(void) {
     /* an add and a take that fail bring what the cell holds */
     EXPECT(is(cop_invoke(&r, COP_TAKE, 15, 8, 0, in, sizeof in), COP_INVOKED, 0, 2, 0));
     EXPECT(is(cop_serve(&s, 1, in, sizeof in, re, sizeof re), COP_PLACED, 0, 2, 0));
+    uncommitted(r, first, re + 3);
     EXPECT(is(cop_receive(&r, re, 44, co, sizeof co), COP_RESPONDED, 0, 2, COP_FAILED + 7));
     EXPECT(is(cop_serve(&s, 1, co, sizeof co, br, sizeof br), COP_BROADCAST, 0, 1, 0));
     EXPECT(is(cop_receive(&r, br, COP_BR, co, 0), COP_CONFIRMED, 0, 2, COP_DONE) && r.cells.values[15] == 7);
@@ -179,7 +192,7 @@ int main(void) {
     digest();
     for (int i = 0; i <= COP_BROADCAST; i++) EXPECT(seen[i] > 0);
     for (int i = 1; i <= COP_REFUSED_COMMITTED; i++)
-        if (i != COP_REFUSED_LONG && (i <= 8 || (20 <= i && i <= 25) || i >= 30)) EXPECT(numbers[i] > 0);
+        if (i <= COP_REFUSED_RANGE || (COP_HALT_FORM <= i && i <= COP_HALT_UNCOMMITTED) || i >= COP_REFUSED_FORM) EXPECT(numbers[i] > 0);
     printf("exports: %d wrong\n", wrong);
     return wrong != 0;
 }

@@ -18,6 +18,7 @@ class Hostile:
         self.up, self.down = {v: deque() for v in VANS}, {v: deque() for v in VANS}
         self.ins, self.cos, self.sent = [], [], []  # what the vans wrote; what it has sent
         self.harm = draws.one_of((4000, 1000, 200, 60, 12))  # once in so many steps
+        self.relists = draws.one_of((1000, 60, 10))  # once in so many `RE`s
         self.splits = 1 + draws.below(4)
 
     def steps(self, n):
@@ -89,6 +90,8 @@ class Hostile:
             message = self.forged(v)
         elif self.down[v]:
             message = self.down[v][0]
+            if cop.is_re(message) and d.chance(self.relists):
+                message = self.relisted(message, v)
         else:
             return
         outcome, commit = self.run.take(v, message)
@@ -128,21 +131,35 @@ class Hostile:
     def rebuilt(self, m, v):
         """The items of a `RE` left out, doubled, reordered or joined by others, the entry in hand mostly last."""
         d = self.d
-        items = [m[3 + 41 * k : 44 + 41 * k] for k in range(m[2])] if cop.is_re(m) else []
+        items = items_in(m) if cop.is_re(m) else []
         if items and d.chance(2):
             items = items[:-1] if d.chance(2) else d.shuffled(items)
         else:
             items = [item for item in items if not d.chance(4)] + [d.one_of(self.ins)[2:] for _ in range(d.below(3))]
-        own = [i for i in self.ins if i[10] == v]
+        own = self.own_items(v)
         if own and d.below(4):
-            items = [item for item in items if item != own[-1][2:]] + [own[-1][2:]]
-        items = items[:33]
-        return b"RE" + bytes([len(items)]) + b"".join(items)
+            items = [item for item in items if item != own[-1]] + [own[-1]]
+        return re_of(items[:33])
+
+    def own_items(self, v):
+        return [i[2:] for i in self.ins if i[10] == v]
+
+    def relisted(self, m, v):
+        """A `RE` with one or two entries of the van's own listed once more before its last item; with the keys, also ones never made."""
+        d, items = self.d, items_in(m)
+        for _ in range(1 + d.below(2)):
+            again = self.forged_item(v).bytes() if self.has_keys and d.chance(2) else d.one_of(self.own_items(v))
+            items.insert(d.below(len(items)), again)
+        return re_of(items[:32])
 
     def forged_entry(self):
         """Mostly one that is allowed."""
         entry = self.run.entry(1 + self.d.below(9))
         return self.d.spoiled(entry) if self.d.chance(10) else entry
+
+    def forged_item(self, author):
+        entry = self.forged_entry()
+        return cop.Item(entry, author, cop.in_tag(self.run.keys, entry, author))
 
     def forged(self, v):
         """With the keys: a `BR` or a `RE` with right tags over what no van wrote."""
@@ -154,13 +171,19 @@ class Hostile:
             if d.chance(10):
                 value = d.bytes(32)
             return cop.br_message(cop.co_message(keys, entry, author, place, value, d.below(2)))
-        items = []
-        for _ in range(d.below(4)):
-            entry, author = self.forged_entry(), 1 + d.below(8)
-            items.append(cop.Item(entry, author, cop.in_tag(keys, entry, author)))
+        items = [self.forged_item(1 + d.below(8)) for _ in range(d.below(4))]
         if book.hand:
             items.append(cop.Item(book.hand, v, cop.in_tag(keys, book.hand, v)))
         return cop.re_message(items)
+
+
+def items_in(m):
+    """The items of a `RE`, as bytes."""
+    return [m[3 + 41 * k : 44 + 41 * k] for k in range(m[2])]
+
+
+def re_of(items):
+    return b"RE" + bytes([len(items)]) + b"".join(items)
 
 
 def hostile(library, draws):

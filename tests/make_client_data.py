@@ -4,6 +4,7 @@ crates/client_run/stdout, what cop.py has a program print for it."""
 import pathlib
 import sys
 from collections import deque
+from itertools import product
 
 import call_lines
 import cop
@@ -72,6 +73,18 @@ class Script:
         """A change that changes nothing."""
         self.change(slot, "number", self.slots[slot][0], to=to)
 
+    def with_statuses(self, slot, statuses, to):
+        """The book with these status bytes (0 none, 1 done, 2 aside) at the first places held."""
+        self.copy(slot, to)
+        for k, status in enumerate(statuses):
+            self.change(to, "statuses", status, k)
+
+    def with_hand(self, slot, entry, to):
+        """The book with this entry in hand."""
+        self.copy(slot, to)
+        for field, value in entry._asdict().items():
+            self.change(to, "hand." + field, value)
+
 
 KEYS = bytes((7 * i + 3) % 256 for i in range(256))  # all 256 bytes, so that no two keys share one
 
@@ -124,6 +137,8 @@ class World:
 def item(entry, author, keys=KEYS):
     return cop.Item(entry, author, cop.in_tag(keys, entry, author))
 
+
+NEVER_MADE = item(Entry(9, ADD, 1, 1), 1)  # by van 1
 
 def chain_from(book, items):
     """Chain values from the one at c on, over items at c + 1 and on."""
@@ -558,28 +573,28 @@ def damaged_reply(s):
         s.take(0, message, to=3)
         s.take(0, message, room=0, to=3)
 
-    s.note("Items left out, repeated, in another order")
+    s.note("Items left out, repeated, in another order; where its entry in hand stands before the last item, 26")
     a, b, c, d = items
-    for listed in (
-        [d],
-        [a],
-        [a, b],
-        [a, b, c],
-        [b, c, d],
-        [a, c, d],
-        [a, b, d],
-        [b, a, c, d],
-        [a, c, b, d],
-        [a, b, d, c],
-        [d, c, b, a],
-        [a, b, c, d, c],
-        [a, b, c, c, d],
-        [a, b, c, d, d],
-        [a, a, b, c, d],
+    for outcome, *listed in (
+        (("halt", 23), d),
+        (("halt", 24), a),
+        (("halt", 24), a, b),
+        (("halt", 24), a, b, c),
+        (("halt", 23), b, c, d),
+        (("halt", 23), a, c, d),
+        (("answer", 4, 1), a, b, d),
+        (("halt", 23), b, a, c, d),
+        (("halt", 23), a, c, b, d),
+        (("halt", 26), a, b, d, c),
+        (("halt", 23), d, c, b, a),
+        (("halt", 26), a, b, c, d, c),
+        (("answer", 6, 1), a, b, c, c, d),
+        (("halt", 26), a, b, c, d, d),
+        (("halt", 23), a, a, b, c, d),
     ):
-        s.take(0, cop.re_message(listed), to=3)
+        assert s.take(0, cop.re_message(listed), to=3)[0] == outcome
 
-    s.note("Items with right tags in place of the listed ones")
+    s.note("Items with right tags in place of the listed ones; one that says it is the van's own, 26")
     for listed in (
         [item(a.entry, 3), b, c, d],
         [a, item(b.entry, 2), c, d],
@@ -635,7 +650,7 @@ def damaged_reply(s):
         s.take(0, cop.re_message(listed), to=3)
         s.take(0, cop.re_message(listed), room=79, to=3)
 
-    s.note("Another book: chain values, keys, statuses, cells, the entry in hand")
+    s.note("Another book: chain values, keys, number, statuses (without one for its own entry, 26), cells, the entry in hand")
     for name, value, index in (
         ("chain", book.chain[0][0] ^ 1, 0),
         ("chain", book.chain[1][31] ^ 1, 63),
@@ -731,6 +746,7 @@ def ranges(s):
         ("halt", 24, 0),
         ("halt", 25, 0),
         ("halt", 26, 0),
+        ("halt", 27, 0),
         ("halt", 255, 0),
     ):
         s.change(0, name, value, index, to=3)
@@ -844,25 +860,20 @@ def damaged_broadcast(s):
 
 
 def own_statuses(s):
-    s.note("Own entries: done ones count, those aside or without a status are passed over")
+    s.note("Own entries: done ones count, those aside are passed over, one without a status halts (26)")
     s.open(0, 1, KEYS)
-    first = Entry(1, SET, 0, 5)
-    s.make(0, SET, 0, 5)
-    s.take(0, cop.re_message([item(first, 1)]))
-    s.make(0, ADD, 0, 3)
-    second = Entry(2, ADD, 0, 3)
-    s.note("Its first entry listed again at place 2, then the second")
-    s.take(0, cop.re_message([item(first, 1), item(first, 1), item(second, 1)]))
-    s.make(0, READ, 0, 0)
-    third = Entry(3, READ, 0, 0)
-    listed = [item(first, 1), item(first, 1), item(second, 1), item(third, 1)]
-    s.take(0, cop.re_message(listed), to=3)
-    s.note("The same with statuses set by hand")
-    for statuses in ((1, 1, 1), (1, 2, 1), (2, 0, 1), (1, 0, 2), (0, 0, 0), (2, 2, 2)):
-        s.copy(0, 3)
-        for k, status in enumerate(statuses):
-            s.change(3, "statuses", status, k)
-        s.take(3, cop.re_message(listed))
+    made = ((SET, 0, 5), (ADD, 0, 1), (ADD, 0, 3), (READ, 0, 0))
+    listed = [item(Entry(count, *m), 1) for count, m in enumerate(made, 1)]
+    for count, m in enumerate(made, 1):
+        s.make(0, *m)
+        if count < 4:
+            s.take(0, cop.re_message(listed[:count]))
+    assert s.take(0, cop.re_message(listed), to=3)[0] == ("answer", 4, 9)
+    s.note("The same RE with statuses set by hand: each of none, done and aside at each of its three earlier entries")
+    for statuses in product(range(3), repeat=3):
+        s.with_statuses(0, statuses, to=3)
+        value = sum(amount for (_, _, amount), status in zip(made, statuses) if status == 1)
+        assert s.take(3, cop.re_message(listed))[0] == (("halt", 26) if 0 in statuses else ("answer", 4, value))
     s.note("A done status at another's place, by hand: that entry is no own one")
     s.open(2, 1, KEYS)
     s.change(2, "cells", 7)
@@ -872,17 +883,174 @@ def own_statuses(s):
     s.change(2, "statuses", 1, 0)
     s.make(2, TAKE, 0, 2)
     assert s.take(2, cop.re_message(strange))[0] == ("answer", 3, 1)
-    s.note("Fewer places than held: an earlier entry in hand again, by hand")
+    s.note("Fewer places than held: an earlier entry in hand again, by hand. At the last item any status may be held, or none")
     s.take(0, cop.re_message(listed), to=2)
-    for name, value in (("hand.count", 1), ("hand.kind", SET), ("hand.cell", 0), ("hand.amount", 5)):
-        s.change(2, name, value)
-    s.take(2, cop.re_message(listed[:1]), to=3)
-    s.take(2, cop.re_message(listed[:2]), to=3)
-    s.take(2, cop.re_message(listed[:3]), to=3)
-    s.change(2, "statuses", 1, 1)
-    s.take(2, cop.re_message(listed[:2]), to=3)
-    s.change(2, "cells", 200)
-    s.take(2, cop.re_message(listed[:2]), to=3)
+    s.with_hand(2, listed[1].entry, to=1)
+    for status in range(3):
+        s.with_statuses(1, (1, status), to=2)
+        assert s.take(2, cop.re_message(listed[:2]), to=3)[0] == ("answer", 2, 1)
+        assert s.take(2, cop.re_message(listed[:1]), to=3)[0] == ("halt", 24)
+        assert s.take(2, cop.re_message(listed[:3]), to=3)[0] == ("halt", 24 if status else 26)
+    s.change(2, "cells", 255)
+    assert s.take(2, cop.re_message(listed[:2]), to=3)[0] == ("answer", 2, 1)
+    s.change(2, "statuses", 2)
+    assert s.take(2, cop.re_message(listed[:2]), to=3)[0] == ("answer", 2, 511)
+    s.with_hand(2, listed[0].entry, to=2)
+    assert s.take(2, cop.re_message(listed[:1]), to=3)[0] == ("answer", 1, 1)
+
+
+def in_turn(s, authors):
+    """Van 1 (slot 0), opened anew, makes its entries among these authors' and takes a RE for each but the last: the items."""
+    s.open(0, 1, KEYS)
+    counts = dict.fromkeys(range(1, 9), 0)
+    items = []
+    for k, author in enumerate(authors, 1):
+        counts[author] += 1
+        made = ADD, author, 1
+        items.append(item(Entry(counts[author], *made), author))
+        if author == 1:
+            s.make(0, *made)
+            if k < len(authors):
+                assert s.take(0, cop.re_message(items))[0] == ("answer", k, 1)
+    return items
+
+
+def halts(s, slot, items, number=26):
+    """A RE of these items halts the van with this number; all but the halt mark, and every byte lent, is as it was."""
+    before = s.slots[slot]
+    outcome, out = s.take(slot, cop.re_message(items), room=128, to=3)
+    assert outcome == ("halt", number) and out == b"\xaa" * 128
+    assert s.slots[3] == call_lines.changed(before, LAYOUT.place("halt", 0), bytes([number]))
+
+
+def uncommitted(s):
+    s.note("A RE that lists an old own entry at a new place: one that waits, one confirmed, the one in hand; and one never made")
+    a, b, c, d = four_waiting(s)
+    good = cop.re_message([a, b, c, d])
+    for old in (b, item(Entry(1, SET, 0, 9), 1), d, NEVER_MADE):
+        for listed in ([a, b, old, d], [a, b, old, c, d], [a, b, c, old, d], [a, b, old, old, d]):
+            halts(s, 0, listed)
+    s.note("Room is asked before; a van that halted so says 3 to every call, and 8 where a field is out of range")
+    assert s.take(0, cop.re_message([a, b, b, d]), room=79, to=3)[0] == ("no", 7)
+    halts(s, 0, [a, b, b, d])
+    for message in (good, cop.re_message([a, b, b, d]), br(a.entry, 2, 2, s.book(0).chain[1]), b"RE\0", b""):
+        assert s.take(3, message)[0] == s.take(3, message, room=0)[0] == ("no", 3)
+    assert s.make(3, ADD, 0, 1)[0] == s.make(3, 0, 0, 0, room=0)[0] == ("no", 3)
+    s.change(3, "number", 0)
+    assert s.take(3, good)[0] == s.make(3, ADD, 0, 1)[0] == ("no", 8)
+    s.note("At the last place an own entry is not asked for a status: the entry in hand is taken, another gives 24")
+    assert s.take(0, good, to=3)[0] == ("answer", 5, 1)
+    for listed in ([a, b, b], [a, b, c, b], [a, b, c, NEVER_MADE], [a, b]):
+        halts(s, 0, listed, 24)
+    s.note("An old own entry at a new place, in hand there by hand: it then has a status, and done or aside it is taken")
+    s.with_hand(0, b.entry, to=1)
+    assert s.take(1, cop.re_message([a, b, b]))[0] == ("answer", 4, 1)
+    s.make(1, TAKE, 0, 1)
+    listed = [a, b, b, item(s.book(1).hand, 1)]
+    for status in range(3):
+        s.with_statuses(1, (0, 1, status), to=2)
+        if status:
+            assert s.take(2, cop.re_message(listed), to=3)[0] == ("answer", 5, 1)
+        else:
+            halts(s, 2, listed)
+
+    s.note("An own entry set aside waits, with others' before and after: taken; listed once more at a new place: 26")
+    s.open(0, 1, KEYS)
+    other, read, more = item(Entry(1, SET, 0, 9), 2), item(Entry(1, READ, 0, 0), 1), item(Entry(1, SET, 0, 8), 3)
+    s.make(0, READ, 0, 0)
+    assert s.take(0, cop.re_message([other, read]))[0] == ("aside", 2)
+    s.make(0, ADD, 1, 1)
+    added = item(Entry(2, ADD, 1, 1), 1)
+    assert s.take(0, cop.re_message([other, read, more, added]), to=3)[0] == ("answer", 4, 1)
+    halts(s, 0, [other, read, read, added])
+    halts(s, 0, [other, read, more, read, added])
+
+    s.note("Each van: before the entry in hand stands one entry without a status, its own (26), of the van before it, of the one after it")
+    for van in range(1, 9):
+        s.open(0, van, KEYS)
+        s.make(0, READ, 0, 0)
+        hand = item(Entry(1, READ, 0, 0), van)
+        halts(s, 0, [item(Entry(2, ADD, 1, 1), van), hand])
+        for author in (1 + (van - 2) % 8, 1 + van % 8):
+            assert s.take(0, cop.re_message([item(Entry(2, ADD, 1, 1), author), hand]), to=1)[0] == ("answer", 2, 0)
+
+    s.note("A BR is not asked 26: an own entry where no status is held, by hand, and where no place is held, is confirmed")
+    items = in_turn(s, (1, 1))
+    value = s.book(0).chain[1]
+    for status in range(3):
+        s.with_statuses(0, (status,), to=2)
+        assert s.take(2, br(items[0].entry, 1, 1, value), to=3)[0] == ("confirm", 1, 1)
+    s.open(0, 1, KEYS)
+    assert s.take(0, br(items[0].entry, 1, 1, value))[0] == ("confirm", 1, 1)
+
+
+def uncommitted_order(s):
+    s.note("Own entries at places 1, 3 and 5, three places held: statuses of the first two by hand")
+    items = in_turn(s, (1, 2, 1, 3, 1))
+    held = s.book(0).held()
+    assert held == 3
+    for statuses in product(range(3), repeat=2):
+        s.with_statuses(0, (statuses[0], 0, statuses[1]), to=2)
+        if 0 in statuses:
+            halts(s, 2, items)
+        else:
+            assert s.take(2, cop.re_message(items), to=3)[0] == ("answer", 5, 1)
+    for first, statuses in ((0, (0, 0, 1)), (2, (1, 0, 0))):
+        s.note("The same without a status at place %d, and a fault in each item in turn: the first of 21, 22, 23, 26; 24 last" % (first + 1))
+        s.with_statuses(0, statuses, to=2)
+        for k, it in enumerate(items):
+            faults = [(21, item(it.entry._replace(kind=7), it.author)), (22, it._replace(tag=bytes(32)))]
+            if k < held:
+                faults += [(23, item(it.entry._replace(count=7), author)) for author in (1, 2)]
+            if k == 4:
+                faults += [(24, item(it.entry._replace(count=7), 1)), (24, item(it.entry, 2))]
+            for number, fault in faults:
+                halts(s, 2, items[:k] + [fault] + items[k + 1 :], number if k <= first else 26)
+    s.note("The same van: an own entry at its fourth place, not held; two faults in that item, and one in the last")
+    a, b, c, d, e = items
+    bad_entry, bad_tag = NEVER_MADE.entry._replace(kind=7), bytes(32)
+    for number, *last in (
+        (26, NEVER_MADE, e),
+        (26, c, e),
+        (21, item(bad_entry, 1), e),
+        (21, cop.Item(bad_entry, 1, bad_tag), e),
+        (22, NEVER_MADE._replace(tag=bad_tag), e),
+        (26, NEVER_MADE, e._replace(tag=bad_tag)),
+        (26, NEVER_MADE, item(bad_entry, 1)),
+        (26, NEVER_MADE, d),
+        (26, NEVER_MADE, NEVER_MADE),
+        (26, e, NEVER_MADE),
+        (24, NEVER_MADE),
+    ):
+        halts(s, 0, [a, b, c, *last], number)
+    s.note("At the last place of all: 26 before it, 21 past it")
+    s.open(0, 1, KEYS)
+    s.make(0, ADD, 0, 1)
+    hand = item(Entry(1, ADD, 0, 1), 1)
+    for c, number in ((cop.LIMIT - 2, 26), (cop.LIMIT - 1, 26), (cop.LIMIT, 21)):
+        s.change(0, "c", c, to=1)
+        halts(s, 1, [NEVER_MADE, hand], number)
+
+
+def uncommitted_of_32(s):
+    s.note("32 items, 31 of them held, own ones at places 1, 16, 31 and 32: taken, done or aside; without a status at one of the three, 26")
+    items = in_turn(s, [1 if k in (1, 16, 31, 32) else 2 + k % 7 for k in range(1, 33)])
+    assert s.book(0).held() == 31
+    s.copy(0, 2)
+    for k in (1, 16, 31):
+        s.change(0, "statuses", 0, k - 1, to=1)
+        halts(s, 1, items)
+        s.change(2, "statuses", 2, k - 1)
+    for slot in (0, 2):
+        assert s.take(slot, cop.re_message(items), to=3)[0] == ("answer", 32, 1)
+    s.note("32 items, none held: others' entries alone are taken; an own one at place 1, 16 or 31, 26")
+    s.open(0, 1, KEYS)
+    s.make(0, ADD, 1, 1)
+    others = [item(Entry(k, ADD, 2, 1), 2 + k % 7) for k in range(1, 32)]
+    hand = item(Entry(1, ADD, 1, 1), 1)
+    assert s.take(0, cop.re_message(others + [hand]), to=3)[0] == ("answer", 32, 1)
+    for k in (1, 16, 31):
+        halts(s, 0, others[: k - 1] + [NEVER_MADE] + others[k:] + [hand])
 
 
 def limits(s):
@@ -1017,6 +1185,9 @@ SECTIONS = (
     ranges,
     damaged_broadcast,
     own_statuses,
+    uncommitted,
+    uncommitted_order,
+    uncommitted_of_32,
     limits,
     thirty_two,
     drawn_lists,
@@ -1029,7 +1200,7 @@ def main():
     for section in SECTIONS:
         section(script)
     wanted = {"opened", "made", "answer", "aside", "confirm", "changed"}
-    wanted |= {("no", n) for n in range(1, 9)} | {("halt", n) for n in range(20, 26)}
+    wanted |= {("no", n) for n in range(1, 9)} | {("halt", n) for n in cop.HALTS}
     assert script.outcomes == wanted, script.outcomes ^ wanted
     here = pathlib.Path(sys.argv[1] if len(sys.argv) > 1 else pathlib.Path(__file__).parents[1] / "crates/client_run")
     here.mkdir(parents=True, exist_ok=True)

@@ -1,10 +1,11 @@
 """Checks cop.py and trial.py: document 01's cases (with document 02's answers and temperatures), its trial listing, the two conflict
-tests against each other, and what the document says of whole runs, on drawn schedules. `python3 tests/self_check.py`."""
+tests against each other, document 02's number 26, and what document 01 says of whole runs, on drawn schedules. `python3 tests/self_check.py`."""
 
 from dataclasses import replace
+from itertools import product
 
 import cop
-from cop import ADD, READ, READ_TEMP, SET, SET_WITH_TEMP, TAKE, Cells, Entry
+from cop import ADD, ASIDE, DONE, READ, READ_TEMP, SET, SET_WITH_TEMP, TAKE, Cells, Entry
 from draws import TEMPERATURES, Draws
 from trial import KEYS, VANS, Trial, lines_of, run
 
@@ -157,6 +158,32 @@ def trial_words():
     assert printed[768:770] == ["769 1 full", "770 2 confirm 1 1"] and printed[-1] == "777 1 placed 257"
 
 
+def halt_marks():
+    """Question 8's "halt mark clear or a halt's number"."""
+    book, _ = cop.open_book(1, KEYS)
+    assert [n for n in range(256) if cop.book_in_range(replace(book, halt=n))] == [0, *range(20, 27)]
+
+
+def uncommitted():
+    """Van 1's `RE` of three, the last in hand: 26 exactly if one of the first two is its own and has no status held. Each author, each
+    status, and up to three places held."""
+    seen = set()
+    hand = Entry(3, ADD, 0, 1)
+    for authors in product((1, 2), repeat=2):
+        items = [cop.Item(e, a, cop.in_tag(KEYS, e, a)) for e, a in [*zip((Entry(1, ADD, 1, 1), Entry(2, ADD, 2, 1)), authors), (hand, 1)]]
+        chain = [cop.ZERO]
+        for place, item in enumerate(items, 1):
+            chain.append(cop.chain_value(chain[-1], item.entry, place, item.author))
+        for held in range(4):
+            for statuses in product((None, DONE, ASIDE), repeat=held):
+                book = replace(cop.open_book(1, KEYS)[0], hand=hand, chain=tuple(chain[: held + 1]), statuses=statuses)
+                _, outcome, _ = cop.take(book, cop.re_message(items), bytes(80))
+                stray = any(author == 1 and (held <= k or statuses[k] is None) for k, author in enumerate(authors))
+                assert outcome == (("halt", 26) if stray else ("answer", 3, 1)), (authors, statuses, outcome)
+                seen.add(outcome)
+    assert len(seen) == 2
+
+
 def relay_numbers():
     """Each of the relay's refusals once, and that out bytes and state stay."""
     book, _ = cop.open_book(1, KEYS)
@@ -243,6 +270,8 @@ CHECKS = (
     conflict_agrees,
     trial_listing,
     trial_words,
+    halt_marks,
+    uncommitted,
     relay_numbers,
     whole_runs,
 )
