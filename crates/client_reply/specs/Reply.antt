@@ -33,7 +33,7 @@ pub record Sorted : Type 0 where
   pub own : List Operation
 
 -- "Others' entries form one list. Own earlier entries with status done form the second …. Own earlier entries without a done
--- status are passed over."
+-- status are passed over." (Since 26, document 02's Q-4, those are the aborted ones.)
 unfoldable pub sortItem : ℕ → ℕ → List ℕ → ℕ → Item → Sorted → Sorted
 sortItem c number statuses k i s =
     cond (eqb (i .author) number)

@@ -13,7 +13,7 @@ successSaid what first second = record { what = what; number = 0; first = first;
 abbrev pub refusalSaid : ℕ → Said
 refusalSaid n = record { what = 0; number = n; first = 0; second = pos 0 }
 
--- "20 to 25 are halts"
+-- "20 to 25 are halts", and 26 (document 02, Q-4)
 abbrev pub haltSaid : ℕ → Said
 haltSaid n = record { what = 1; number = n; first = 0; second = pos 0 }
 

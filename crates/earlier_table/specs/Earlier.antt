@@ -39,7 +39,7 @@ unfoldable pub earlierBroadcastNo : Replica → List ℕ → ℕ
 earlierBroadcastNo r m =
     firstNo 0 (formChecks r m ++ ((earlierCommitOk (commitOf m), 21) ∷ (seqOk r (commitOf m), 25) ∷ proofChecks r (commitOf m)))
 
--- and of a `RE` (`replyNo`): those of its first k items, and all
+-- and of a `RE` (`replyNo`, without 26, which came later): those of its first k items, and all
 unfoldable pub earlierItemsChecks : Replica → List ℕ → ℕ → List (Bool × ℕ)
 earlierItemsChecks r m zero = []
 earlierItemsChecks r m (suc k) =
