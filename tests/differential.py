@@ -39,6 +39,7 @@ def one_run(task):
             if run.let_off:
                 facts["let off"] = 1
             else:
+                facts["with an IN tag forged"] = int(run.forged)
                 facts["claims checked"] = 1
                 facts["entries common to two vans"] = run.check_claims()
                 facts["forked"] = forked(run)

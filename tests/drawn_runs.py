@@ -45,7 +45,8 @@ class Run:
         self.tagged = set()  # (author, string): tagged by a successful call of the author's van
         self.confirmed = {v: [] for v in VANS}  # ((entry, author, place, status), cells after)
         self.got = {}  # (author, count): what the author was given, in order
-        self.let_off = False
+        self.forged = False  # a right tag over a string not tagged before: document 01 lets the run off
+        self.let_off = False  # such a tag of a commit: since number 26 no other is needed for demand 3
         self.halts = 0
         self.cells = draws.one_of(((0,), (3,), (0, 15), (1, 2, 3, 4), tuple(range(16))))
         self.amounts = draws.one_of(((0, 1, 2), (0, 1, 5, 40), (100, 128, 255), tuple(range(256))))
@@ -101,7 +102,8 @@ class Run:
 
     def check_tagged(self, author, string):
         if (author, string) not in self.tagged:
-            self.let_off = True
+            self.forged = True
+            self.let_off |= string[:2] == b"CO"
 
     # Claims
 
@@ -177,7 +179,7 @@ def honest(library, draws):
                     down[u].popleft()
                 if commit:
                     up[u].append(commit)
-    claim(run.halts == 0 and not run.let_off, "no call halts, nothing is let off, with a relay that follows the rules")
+    claim(run.halts == 0 and not run.forged, "no call halts, nothing is let off, with a relay that follows the rules")
     return run
 
 

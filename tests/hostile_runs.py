@@ -188,7 +188,7 @@ def re_of(items):
 
 def hostile(library, draws):
     run = Hostile(library, draws, has_keys=False).steps(300 + draws.below(1500))
-    claim(not run.let_off, "without a key no tag is right over what its van did not tag")
+    claim(not run.forged, "without a key no tag is right over what its van did not tag")
     return run
 
 
