@@ -140,6 +140,7 @@ def item(entry, author, keys=KEYS):
 
 NEVER_MADE = item(Entry(9, ADD, 1, 1), 1)  # by van 1
 
+
 def chain_from(book, items):
     """Chain values from the one at c on, over items at c + 1 and on."""
     chain = [book.chain[0]]

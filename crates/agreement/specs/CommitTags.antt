@@ -11,5 +11,6 @@ unfoldable pub ByCommit : {keys : List ℕ} {log : List Logged} → LetOff keys 
 ByCommit (collision s t a b n e) = Unit {0}
 ByCommit (forgery older newer e x q a r n) = (k : Commit) × (x ≡ broadcastCarried k)
 
+-- "Whatever the relay sends", in every run without such a let-off: what document 01 demands (`Agreement`)
 unfoldable pub CommitDemand : Type 0
 CommitDemand = (keys : List ℕ) (calls : List Call) → ((off : LetOff keys (logOf keys calls)) → ByCommit off → ⊥) → Agreement (logOf keys calls)
