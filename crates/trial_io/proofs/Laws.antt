@@ -1,11 +1,11 @@
 -- The whole lines of a buffer, call by call of `answers`. Assumes nothing.
-use Prim.Native.Nat.{ℕ, zero, suc, _+_, _-_, _≤_}
+use Prim.Native.Nat.{ℕ, _+_, _-_, _≤_}
 use mathlib.Core.Path.{_≡_, refl, sym, ap, _∙_}
 use mathlib.Core.List.{List, [], _∷_, _++_, append-nil, append-assoc}
 use mathlib.Core.Logic.{_⊎_, inl, inr}
 use native.Mathlib.Omega.{arith}
 use lib.ListN.{length, take, drop, length-take}
-use lib.Seq.{drop-drop, take-nil}
+use Rattle.text.proofs.Parts.{part, part-drop}
 use Rattle.trial_words.specs.Words.{Asked}
 use Rattle.trial_parse.specs.Parse.{parse}
 use Rattle.trial_core.specs.declared.Trial.{Trial}
@@ -14,21 +14,6 @@ use Rattle.trial_bytes.specs.Held.{Keeps}
 use Rattle.trial_lines.specs.declared.Answered.{Answered}
 use Rattle.trial_lines.specs.Lines.{Run, nextRun, runLines, linesOf, Answers}
 use Rattle.trial_io.specs.Whole.{Whole}
-
-drop-take : (i j : ℕ) (l : List ℕ) → drop i (take j l) ≡ take (j - i) (drop i l)
-drop-take zero j l = let e : j - 0 ≡ j = omega arith in rw e
-drop-take (suc i) zero l = let e : 0 - suc i ≡ 0 = omega arith in rw e
-drop-take (suc i) (suc j) [] = sym (take-nil (suc j - suc i))
-drop-take (suc i) (suc j) (x ∷ l) = let e : suc j - suc i ≡ j - i = omega arith in rw e (drop-take i j l)
-
--- the bytes from `at` to n
-abbrev part : List ℕ → ℕ → ℕ → List ℕ
-part s at n = take (n - at) (drop at s)
-
-part-drop : (s : List ℕ) (at used n : ℕ) → drop used (part s at n) ≡ part s (at + used) n
-part-drop s at used n =
-    let e : n - at - used ≡ n - (at + used) = omega arith in
-    drop-take used (n - at) (drop at s) ∙ rw (e, drop-drop used at s)
 
 -- lines, and more lines after them
 run-append : (w : Run) (xs ys : List (List ℕ)) → runLines w (xs ++ ys) ≡ runLines (runLines w xs) ys

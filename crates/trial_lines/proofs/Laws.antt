@@ -4,12 +4,11 @@ use mathlib.Core.Path.{_≡_, refl, sym, ap, _∙_}
 use mathlib.Core.List.{List, [], _∷_, _++_, append-assoc}
 use mathlib.Core.Logic.{_⊎_}
 use native.Mathlib.Omega.{arith}
-use lib.ListN.{length, take, drop, length-append, length-take}
-use lib.Seq.{drop-drop, take-at, take-append-add}
-use Rattle.slices.specs.Bytes.{put}
-use Rattle.slices.proofs.Laws.{put-length, drop-put}
+use lib.ListN.{length, take, drop, length-append}
+use lib.Seq.{take-append-add}
 use Rattle.text.specs.Text.{placeOf}
 use Rattle.text.proofs.Cuts.{Cut, cut-start, cut-more}
+use Rattle.text.proofs.Filled.{Filled, filled-more}
 use Rattle.trial_words.specs.Words.{Asked}
 use Rattle.trial_parse.specs.Parse.{parse}
 use Rattle.trial_print.specs.Line.{lineBytes}
@@ -27,13 +26,6 @@ run-more w (m ∷ ls) l = run-more (nextRun w (parse m)) ls l
 -- one element more of a list
 pub take-more : (xs ys ls : List (List ℕ)) (y : List ℕ) (n : ℕ) → xs ≡ ls ++ (y ∷ ys) → length ls ≡ n → take (n + 1) xs ≡ ls ++ (y ∷ [])
 take-more xs ys ls y n e h = rw (e, ← h) (take-append-add ls (y ∷ ys) 1)
-
--- bytes put at the end of those there are
-module _ (z L : List ℕ) (at : ℕ) (h : at + length L ≤ length z) where
-  pub front-more : take (at + length L) (put z at L) ≡ take at z ++ L
-  front-more =
-      let g : length (take at z ++ L) ≡ at + length L = simp (length-append, length-take) (omega arith) in
-      take-at (take at z ++ L) (drop (at + length L) z) (at + length L) g
 
 -- the first `count` lines are answered
 pub record So (t₀ : Trial) (n : ℕ) (b₀ : Lent) (text out₀ : List ℕ) (t : Trial) (b : Lent) (out : List ℕ) (count at filled : ℕ) : Type 0 where
@@ -83,9 +75,9 @@ module _ {t₀ : Trial} {n : ℕ} {b₀ : Lent} {text out₀ : List ℕ} {t : Tr
       let m : take (count + 1) (linesOf text) ≡ ls ++ (l ∷ []) =
       take-more (linesOf text) ys ls l count (k .pieces ∙ append-assoc ls (l ∷ []) ys) (w .counted) in
       let place : r .filled ≡ filled + length L = s .place in
-      let fits : filled + length L ≤ length out = omega (arith, s .most, w .same) in
-      let p : take (r .filled) out′ ≡ take filled out ++ L = rw (s .bytes, place) (front-more out L filled fits) in
-      let d : filled + (r .filled - filled) ≡ r .filled = omega arith in
+      let k₀ : Filled out₀ out filled (take filled out) = record { front = refl; rest = w .rest; room = w .room; same = w .same } in
+      let f = filled-more k₀ out′ L (r .filled) (s .bytes) place (omega (arith, s .most)) in
+      let p : take (r .filled) out′ ≡ take filled out ++ L = f .front in
       let i : n + (count + 1) ≡ n + count + 1 = omega arith in
       let v : _≡_ {A = Run} (record { trial = r .trial; lent = b′; number = n + (count + 1); printed = take (r .filled) out′ })
       (nextRun (record { trial = t; lent = b; number = n + count; printed = take filled out }) (parse l)) = rw (s .trial, s .lent, i, p) in
@@ -94,16 +86,9 @@ module _ {t₀ : Trial} {n : ℕ} {b₀ : Lent} {text out₀ : List ℕ} {t : Tr
         counted = rw m (omega (arith, length-append ls (l ∷ []), w .counted));
         each = omega (arith, w .each);
         run = v ∙ ap (λ (x : Run). nextRun x (parse l)) (w .run) ∙ sym (run-more R ls l) ∙ ap (runLines R) (sym m);
-        room = omega (arith, s .most);
-        rest =
-            ap (drop (r .filled)) (s .bytes)
-            ∙ drop-put out L filled (r .filled) (omega arith) (omega arith)
-            ∙ ap (λ (x : ℕ). drop x out) (sym d)
-            ∙ sym (drop-drop (r .filled - filled) filled out)
-            ∙ ap (drop (r .filled - filled)) (w .rest)
-            ∙ drop-drop (r .filled - filled) filled out₀
-            ∙ ap (λ (x : ℕ). drop x out₀) d;
-        same = ap length (s .bytes) ∙ put-length out L filled fits ∙ w .same;
+        room = f .room;
+        rest = f .rest;
+        same = f .same;
       }
 
   pub so-ends :
