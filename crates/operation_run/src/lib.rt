@@ -65,7 +65,7 @@ pub fn value_response(e: Operation, v: u8) -> u16
 }
 
 // The number that a byte stands for, in two's complement.
-fn signed_of(b: u8) -> Response
+pub fn signed_of(b: u8) -> Response
     ensures { λ r. ⌜ r ≡ signed b ⌝ }
 {
     let z = b as i16;

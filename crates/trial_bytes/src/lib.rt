@@ -8,7 +8,7 @@ ghost use Rattle.trial_bytes.specs.Held.{Ends, Reads, Keeps};
 
 // One read, of bytes to stand after the first `held`; 0 at the end of the input, where it fails, and where no more than a buffer of
 // bytes may yet be read.
-fn read(buf: &mut [u8], held: usize, left: u64) -> usize
+pub fn read(buf: &mut [u8], held: usize, left: u64) -> usize
     requires { ⌜ (held ≤ length (now buf)) × (0 < left) ⌝ }
     ensures { λ r. ⌜ (held + r ≤ length (now (buf .entry))) × (r < left) × (take held (now (buf .exit)) ≡ take held (now (buf .entry))) ⌝ }
 {

@@ -40,7 +40,7 @@ pub fn put_datum(out: &mut [u8], at: usize, n: u32) -> usize
 }
 
 // A signed number after a space.
-fn put_signed(out: &mut [u8], at: usize, z: i16) -> usize
+pub fn put_signed(out: &mut [u8], at: usize, z: i16) -> usize
     requires { ⌜ at + 11 ≤ length (now out) ⌝ }
     ensures { λ r. ⌜ (r ≡ at + length (signedDatum z)) × (now (out .exit) ≡ put (now (out .entry)) at (signedDatum z)) × (r ≤ at + 11) ⌝ }
 {

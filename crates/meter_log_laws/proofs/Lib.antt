@@ -1,0 +1,9 @@
+pub mod Put
+pub mod Grammar
+pub mod Spot
+pub mod Returns
+pub mod Column
+pub mod Lines
+pub mod Log
+pub mod Made
+pub mod Cases
