@@ -1,10 +1,17 @@
 """Checks cop.py and trial.py: document 01's cases (with document 02's answers and temperatures), its trial listing, the two conflict
-tests against each other, document 02's number 26, and what document 01 says of whole runs, on drawn schedules. `python3 tests/self_check.py`."""
+tests against each other, document 02's number 26, and what document 01 says of whole runs, on drawn schedules; and meter_log.py: cases of
+document 02's Q-5, sound quoting told in two ways, Python's csv, and an added column on drawn logs. `python3 tests/self_check.py`."""
 
+import csv
+import io
+import re
 from dataclasses import replace
 from itertools import product
 
 import cop
+import log_csv
+import log_draws
+import meter_log
 from cop import ADD, ASIDE, DONE, READ, READ_TEMP, SET, SET_WITH_TEMP, TAKE, Cells, Entry
 from draws import TEMPERATURES, Draws
 from trial import KEYS, VANS, Trial, lines_of, run
@@ -263,6 +270,104 @@ def whole_runs():
     assert negative > 10, negative
 
 
+def log_cases():
+    """Logs, and what is printed for each of their lines."""
+    for log, printed in (
+        (b"", []),
+        (b"\n", ["no 40"]),
+        (b"cell,flow,temp", ["header"]),
+        (b"cell,flow,temp\r\n", ["header"]),
+        (b"cell,flow,temp\r", ["no 40"]),
+        (b"cell,flow,temp\r\r\n1,2,3\n", ["no 40", "no 40"]),
+        (b"temp,x,cell,flow\n-40,,15,255\n85,,0,0", ["header", "5 15 255 -40", "5 0 0 85"]),
+        (b"cell,flow,temp\n1,2,3\r\n1,2,3\r", ["header", "5 1 2 3", "no 42"]),
+        (b"cell,flow,temp\n001,002,-003\n1,2,-0\n0001,2,3\n1,-2,3\n", ["header", "5 1 2 -3", "5 1 2 0", "no 42", "no 42"]),
+        (b"cell,flow,temp\n16,2,3\n1,256,3\n1,2,86\n1,2,-41\n1,2,\n", ["header"] + ["no 42"] * 5),
+        (b'cell,flow,temp\n"1",2,3\n1,2\n1,2,3,\n\n', ["header", "no 42", "no 41", "no 41", "no 41"]),
+        (b'cell,flow,temp,n\n1,2,3,"a,""b"\n1,2,3,a"\n1,2,3,"a"b\n', ["header", "5 1 2 3", "no 41", "no 41"]),
+        (b'cell,flow,temp,n\n1,2,3,"a\nb"\n1,2,3,"a\n1,2,3,4\n"\n', ["header", "no 41", "no 41", "no 41", "5 1 2 3", "no 41"]),
+        (b'cell,flow,temp,"cell"\n1,2,3,4\n', ["header", "5 1 2 3"]),
+        (b"cell,flow,temp,cell\n1,2,3,4\n", ["no 40", "no 40"]),
+        (b'cell,flow,"temp"\n1,2,3\n', ["no 40", "no 40"]),
+        (b"cell,flow, temp\n1,2,3\n", ["no 40", "no 40"]),
+        (b'cell,flow,temp,"\n"\n', ["no 40", "no 40"]),
+        (b"cell,flow,temp,n\n1,2,3," + b"x" * 65529 + b"\n1,2,3," + b"x" * 65530 + b"\n1,2,3,", ["header", "5 1 2 3", "long", "5 1 2 3"]),
+        (b"cell,flow,temp,n\n1,2,3," + b"x" * 65528 + b"\r\n1,2,3," + b"x" * 65529 + b"\r\n", ["header", "5 1 2 3", "long"]),
+        (b"cell,flow,temp,n\n1,2,3," + b"x" * 65530, ["header", "long"]),
+        (b"cell,flow,temp," + b"x" * 65521 + b"\n1,2,3,\n", ["long", "long"]),
+    ):
+        assert meter_log.run(log) == printed, (log[:60], meter_log.run(log))
+
+
+def log_quotes():
+    """On every line of up to seven bytes of these: one expression for the whole line, against counting quotes."""
+    one = meter_log.FIELD.pattern
+    whole = re.compile(b"(?:%s)(?:,(?:%s))*" % (one, one))
+    lines = [bytes(text) for size in range(8) for text in product(b'",a\r', repeat=size)]
+    sound = [line for line in lines if whole.fullmatch(line)]
+    assert sound == [line for line in lines if meter_log.fields_of(line) is not None] and len(sound) == 5436, len(sound)
+    for line in sound:
+        assert b",".join(meter_log.fields_of(line)) == line
+    assert all(meter_log.FIELD.fullmatch(field) for field in log_draws.OTHER_NAMES + log_draws.OTHER_VALUES)
+
+
+def by_csv(log):
+    """What log_csv.py prints for the records up to one that csv refuses."""
+    printed = []
+    try:
+        printed.extend(log_csv.printed(io.StringIO(log.decode("latin-1"), newline="")))
+    except csv.Error:
+        printed.append("refused")
+    return printed
+
+
+def log_as_csv():
+    """Where csv reads a log as Q-5 does, and each way in which it does not (tests/README.md)."""
+    head = b"cell,flow,temp,n\n"
+    for log in (b"", b"\n", head + b'1,2,3,"a,""b"""\r\n1,2,3,\n\n""\n1,2,-0,\xff\n 1,2,3,4\n1,2,3', head + b'1,2,3,"\r"\n', b"a,b\n1,2\n\n"):
+        assert by_csv(log) == meter_log.run(log), log
+    for log, expected in (
+        (head + b'1,2,3,"a\n1,2,3,b"\n', ["header", "5 1 2 3"]),  # a line feed in quotes: one record
+        (head + b'1,2,3,"a\n1,2,3,4\n1,2,3,"\n1,2,3,5\n', ["header", "5 1 2 3", "5 1 2 3"]),
+        (head + b'1,2,3,"a\n1,2,3,4\n', ["header", "refused"]),  # an open quote takes in all that follows
+        (head + b'"1","2","-3",4\n', ["header", "5 1 2 -3"]),  # quotes are gone
+        (b'"cell",flow,temp\n1,2,3\n', ["header", "5 1 2 3"]),
+        (b'cell,flow,temp,"cell"\n1,2,3,4\n', ["no 40", "no 40"]),
+        (head + b'1,2,3,a"b\n1,2,3, "a"\n1,2,3,a"\n', ["header"] + ["5 1 2 3"] * 3),  # a quote in a field that does not begin with one
+        (head + b'1,2,3,"a"b\n', ["header", "refused"]),  # a byte after the closing quote
+        (head + b"1,2,3,a\r1,2,3,b\n", ["header", "5 1 2 3", "5 1 2 3"]),  # a carriage return ends a record, if not in quotes
+        (head + b"1,2,3,a\r\r\n", ["header", "5 1 2 3", "no 41"]),
+        (b"cell,flow,temp\n1,2,3\r", ["header", "5 1 2 3"]),
+        (b"cell,flow,temp\r", ["header"]),
+        (head + b"1,2,3," + b"x" * 65530 + b"\n", ["header", "5 1 2 3"]),  # its limit is one of fields, of 131,072 characters
+        (head + b"1,2,3," + b"x" * 131073 + b"\n", ["header", "refused"]),
+    ):
+        assert by_csv(log) == expected != meter_log.run(log), (log[:60], by_csv(log))
+    assert list(csv.reader(['"a"b,"c" ,"d\n'])) == [["ab", "c ", "d\n"]]  # without strict=True
+    rows = ["a,b\n", "\n", "1,2\n"]
+    assert list(csv.reader(rows)) == [["a", "b"], [], ["1", "2"]] and list(csv.DictReader(rows)) == [{"a": "1", "b": "2"}]
+    for line in ('"a"b\n', "a\rb\n"):  # the second: in lines that are cut at line feeds only
+        reader = csv.reader([line, "c\n"], strict=True)
+        try:
+            raise AssertionError(next(reader))
+        except csv.Error:
+            assert next(reader) == ["c"]  # goes on after an error
+    assert [int(text) for text in (" 7", "+7", "0_7", "\u0667", "7\r")] == [7] * 5
+
+
+def log_added_column():
+    """ "A column added at one position in all lines … must leave the entries the same." """
+    entries = 0
+    for case in range(300):
+        draws = Draws("added %d" % case)
+        log = log_draws.log(draws, 20, case % 4 == 0)
+        printed = meter_log.run(log)
+        more = log_draws.added(draws, meter_log.lines_of(log))
+        assert meter_log.run(more) == printed and more != log, (log, more)
+        entries += sum(line.startswith("5") for line in printed)
+    assert entries > 1500, entries
+
+
 CHECKS = (
     table_cases,
     table_ranges,
@@ -274,6 +379,10 @@ CHECKS = (
     uncommitted,
     relay_numbers,
     whole_runs,
+    log_cases,
+    log_quotes,
+    log_as_csv,
+    log_added_column,
 )
 
 if __name__ == "__main__":

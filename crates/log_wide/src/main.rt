@@ -1,0 +1,4 @@
+// The meters' log: a hundred columns.
+fn main() {
+    meter_log_io::run();
+}

@@ -1,0 +1,64 @@
+-- The input in parts: what was told and printed of all that came, however it was cut into reads. Assumes nothing.
+use Prim.Native.Nat.{ℕ}
+use mathlib.Core.Path.{_≡_, refl, sym, ap, _∙_}
+use mathlib.Core.List.{List, [], _∷_, _++_, append-nil, append-assoc}
+use mathlib.Core.Bool.{Bool}
+use Rattle.text.specs.Text.{cut}
+use Rattle.text.proofs.Joins.{last-piece, last-goes-on}
+use Rattle.meter_log_told.specs.declared.Log.{Log}
+use Rattle.meter_log_told.specs.declared.Log.the-variants as L
+use Rattle.meter_log_lines.specs.Lines.{Run, runWhole}
+use Rattle.meter_log_lines.specs.Printed.{runLast, runInput, printedOf}
+use Rattle.meter_log_lines.proofs.Laws.{from, run-then}
+use Rattle.meter_log_io.specs.declared.Kept.{Kept}
+use Rattle.meter_log_io.specs.Whole.{Stands, AllTold, Came, Ended}
+
+-- bytes t came in all: their whole lines were told, p is what is left of them, and `printed` what was printed
+pub record Input (t : List ℕ) (g : Log) (p printed : List ℕ) : Type 0 where
+  pub told : List (List ℕ)
+  pub pieces : cut 10 t ≡ told ++ (p ∷ [])
+  pub run : _≡_ {A = Run} (record { log = g; printed = printed }) (runWhole (from L.Start) told)
+
+pub input-none : Input [] L.Start [] []
+unfolding cut runWhole
+input-none = record { told = []; pieces = refl; run = refl }
+
+-- more bytes came, by the contract of `more`: all is told of them together
+module _ {t : List ℕ} {g : Log} {p printed : List ℕ} (i : Input t g p printed) {o : Bool} {s x : List ℕ} {g′ : Log} {k : Kept} {buf′ : List ℕ} (c : Came g o s x g′ k buf′) (h : Stands o s p) where
+  abbrev part : AllTold g (p ++ x) g′ k buf′
+  part = c .whole p (last-piece 10 t (i .told) p (i .pieces)) h
+
+  pub input-more : Input (t ++ x) g′ (part .rest) (printed ++ part .printed)
+  input-more =
+      record {
+        told = i .told ++ part .told;
+        pieces =
+            last-goes-on 10 t (i .told) p (i .pieces) x
+            ∙ ap (λ (z : List (List ℕ)). i .told ++ z) (part .pieces)
+            ∙ sym (append-assoc (i .told) (part .told) (part .rest ∷ []));
+        run = run-then L.Start g g′ printed (part .printed) (i .told) (part .told) (i .run) (part .run);
+      }
+
+-- ---- the end of the input
+all-last : (w : Run) (ps : List (List ℕ)) (p : List ℕ) → runInput w (ps ++ (p ∷ [])) ≡ runLast (runWhole w ps) p
+unfolding runInput runWhole
+all-last w [] p = refl
+all-last w (q ∷ []) p = refl
+all-last w (q ∷ r ∷ ps) p = all-last _ (r ∷ ps) p
+
+input-all : {t : List ℕ} {g : Log} {p printed : List ℕ} → Input t g p printed → runLast (record { log = g; printed = printed }) p .printed ≡ printedOf t
+unfolding printedOf
+input-all {p = p} i =
+    ap (λ (w : Run). runLast w p .printed) (i .run)
+    ∙ sym (ap (λ (w : Run). w .printed) (ap (runInput (from L.Start)) (i .pieces) ∙ all-last (from L.Start) (i .told) p))
+
+last-behind : (g : Log) (p printed : List ℕ) → printed ++ runLast (from g) p .printed ≡ runLast (record { log = g; printed = printed }) p .printed
+unfolding runLast
+last-behind g [] printed = append-nil printed
+last-behind g (b ∷ p) printed = refl
+
+-- with the line that no line feed ends, by the contract of `put_last`, all is printed that the whole input prints
+pub input-ends :
+    {t : List ℕ} {g : Log} {p printed : List ℕ} {o : Bool} {s q : List ℕ} → Input t g p printed → Ended g o s q → Stands o s p → printed ++ q ≡ printedOf t
+input-ends {g = g} {p = p} {printed = printed} i e h =
+    ap (λ (z : List ℕ). printed ++ z) (e .last p h) ∙ last-behind g p printed ∙ input-all i

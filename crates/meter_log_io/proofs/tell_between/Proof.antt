@@ -1,0 +1,64 @@
+use Prim.Native.Nat.{_+_, _-_}
+use mathlib.Core.Path.{_≡_}
+use lib.ListN.{length}
+use borrow.Author.Needs.{needs}
+use Rattle.meter_log_io.proofs.Laws.{Passing, passing-none, passing-more, passing-past}
+use Rattle.meter_log_io.proofs.tell_between.Statement.{statement}
+use Rattle.meter_log_io.proofs.tell_between.Tie as tie
+
+abbrev Inv-loop : tie.InvT-loop
+Inv-loop from n buf out₀ log₀ at₀ used₀ out log at used = Passing log₀ buf from n log at used × (length out ≡ length out₀)
+
+abbrev μ-loop : tie.MeasureT-loop
+μ-loop from n buf out₀ log₀ at₀ used₀ out log at used = n + used - at
+
+loop-holds : tie.Need-loop-holds Inv-loop μ-loop
+loop-holds c = (passing-none _ _ _ _ (search needs), search needs)
+
+sub-tell-lines : tie.Need-sub-tell-lines Inv-loop μ-loop
+sub-tell-lines c = search needs
+
+part-tell-lines-start : tie.Need-part-tell-lines-start Inv-loop μ-loop
+part-tell-lines-start c = search needs
+
+part-tell-lines-end : tie.Need-part-tell-lines-end Inv-loop μ-loop
+part-tell-lines-end c = search needs
+
+tell-lines-requires : tie.Need-tell-lines-requires Inv-loop μ-loop
+tell-lines-requires c κs = search needs
+
+add-at : tie.Need-add-at Inv-loop μ-loop
+add-at c = search needs
+
+print-requires : tie.Need-print-requires Inv-loop μ-loop
+print-requires c κs = search needs
+
+loop-less : tie.Need-loop-less Inv-loop μ-loop
+loop-less c = search needs
+
+loop-again : tie.Need-loop-again Inv-loop μ-loop
+loop-again c = let k = c .before .before .before .before .before .before .before .before .loop in let a = c .before .before .before .before .tell-lines in (passing-more {r = a .result} (search needs) (k .inv .0) (a .ensures), search needs)
+
+same-length : tie.Need-same-length Inv-loop μ-loop
+same-length c = search needs
+
+returns : tie.Need-returns Inv-loop μ-loop
+returns c = let k = c .before .loop .inv .0 in (passing-past (search needs) k, k .low, k .within)
+
+pub tell-between-spec : {M : Type 1} → statement M
+tell-between-spec =
+    tie.close
+    (tie.spec
+    Inv-loop
+    μ-loop
+    loop-holds
+    sub-tell-lines
+    part-tell-lines-start
+    part-tell-lines-end
+    tell-lines-requires
+    add-at
+    print-requires
+    loop-less
+    loop-again
+    same-length
+    returns)

@@ -1,0 +1,38 @@
+-- Lines of a log and what is printed for them, one after the other.
+use Prim.Native.Nat.{ℕ, _+_, _≤_, _<_}
+use mathlib.Core.Path.{_≡_}
+use mathlib.Core.List.{List, [], _∷_, _++_}
+use mathlib.Core.Logic.{_⊎_}
+use lib.ListN.{length, take, drop}
+use Rattle.text.specs.Text.{cut}
+use Rattle.meter_log_told.specs.declared.Log.{Log}
+use Rattle.meter_log_told.specs.declared.LogStep.{LogStep}
+use Rattle.meter_log_told.specs.Told.{tellWhole, toldBytes}
+use Rattle.meter_log_lines.specs.declared.TextTold.{TextTold}
+
+-- the program between two lines: the log, and what was printed
+pub record Run : Type 0 where
+  pub log : Log
+  pub printed : List ℕ
+
+abbrev pub advance : Run → LogStep → Run
+advance w s = record { log = s .log; printed = w .printed ++ toldBytes (s .told) }
+
+-- the bytes of lines, each before its line feed
+unfoldable pub runWhole : Run → List (List ℕ) → Run
+runWhole w [] = w
+runWhole w (p ∷ ps) = runWhole (advance w (tellWhole (w .log) p)) ps
+
+-- the first lines of a text were told, into the front of `out`
+pub record Tells (g : Log) (text out : List ℕ) (r : TextTold) (out′ : List ℕ) : Type 0 where
+  pub told : List (List ℕ)
+  -- `used` is the place after them
+  pub pieces : cut 10 text ≡ told ++ cut 10 (drop (r .used) text)
+  pub within : r .used ≤ length text
+  -- the log after them, and what is printed, in their order
+  pub run : _≡_ {A = Run} (record { log = r .log; printed = take (r .filled) out′ }) (runWhole (record { log = g; printed = [] }) told)
+  pub room : r .filled ≤ length out
+  pub rest : drop (r .filled) out′ ≡ drop (r .filled) out
+  -- no whole line is left, or less room than a line may need and a line was told
+  pub ends : (cut 10 (drop (r .used) text) ≡ drop (r .used) text ∷ []) ⊎ (length out < r .filled + 64)
+  pub some : r .used ≡ 0 → r .filled ≡ 0
