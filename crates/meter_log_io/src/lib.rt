@@ -1,6 +1,7 @@
 // The log program: a log from standard input to its end, and a line for each of its lines on standard output. What is printed for which
-// line is the contract of `meter_log_lines::tell_lines`; that no byte is lost or read twice between two reads that of `more`, for every
-// way in which the input may come in parts (proofs/InParts.antt). Here is only the loop that reads and prints; it is safe and ends.
+// line is the contract of `meter_log_lines::tell_lines`, and for the last one, where no line feed ends it, of `put_last`; that no byte is
+// lost or read twice between two reads is that of `more`, for every way in which the input may come in parts (proofs/InParts.antt). `run`
+// is only the loop that reads and prints; it is safe and ends.
 use meter_log_told::Log;
 ghost use mathlib.Core.Path.{_≡_};
 ghost use mathlib.Core.List.{[]};
@@ -22,6 +23,7 @@ struct Kept {
     held: usize,
 }
 
+// After some bytes: the log, and what is held.
 struct LogAfter {
     log: Log,
     kept: Kept,
