@@ -2,7 +2,9 @@
 use Prim.Native.Nat.{ℕ}
 use mathlib.Core.Path.{_≡_, refl, sym, ap, _∙_}
 use mathlib.Core.List.{List, [], _∷_, _++_, append-nil, append-assoc}
-use mathlib.Core.Bool.{Bool}
+use mathlib.Core.Bool.{Bool, false}
+use native.Mathlib.Omega.{arith}
+use lib.ListN.{take}
 use Rattle.text.specs.Text.{cut}
 use Rattle.text.proofs.Joins.{last-piece, last-goes-on}
 use Rattle.meter_log_told.specs.declared.Log.{Log}
@@ -11,13 +13,7 @@ use Rattle.meter_log_lines.specs.Lines.{Run, runWhole}
 use Rattle.meter_log_lines.specs.Printed.{runLast, runInput, printedOf}
 use Rattle.meter_log_lines.proofs.Laws.{from, run-then}
 use Rattle.meter_log_io.specs.declared.Kept.{Kept}
-use Rattle.meter_log_io.specs.Whole.{Stands, AllTold, Came, Ended}
-
--- bytes t came in all: their whole lines were told, p is what is left of them, and `printed` what was printed
-pub record Input (t : List ℕ) (g : Log) (p printed : List ℕ) : Type 0 where
-  pub told : List (List ℕ)
-  pub pieces : cut 10 t ≡ told ++ (p ∷ [])
-  pub run : _≡_ {A = Run} (record { log = g; printed = printed }) (runWhole (from L.Start) told)
+use Rattle.meter_log_io.specs.Whole.{Stands, all, AllTold, Came, Ended, Input, Reached}
 
 pub input-none : Input [] L.Start [] []
 unfolding cut runWhole
@@ -38,6 +34,21 @@ module _ {t : List ℕ} {g : Log} {p printed : List ℕ} (i : Input t g p printe
             ∙ sym (append-assoc (i .told) (part .told) (part .rest ∷ []));
         run = run-then L.Start g g′ printed (part .printed) (i .told) (part .told) (i .run) (part .run);
       }
+
+-- the program before its first read, and after one more, which leaves what is held
+pub reached-none : (buf : List ℕ) → Reached L.Start (record { over = false; held = 0 }) buf
+reached-none buf = record { input = []; left = []; printed = []; told = input-none; stands = all {p = []} refl (omega arith) }
+
+pub reached-more :
+    {g : Log} {k : Kept} {buf : List ℕ} {s x : List ℕ} {g′ : Log} {k′ : Kept} {buf′ : List ℕ} →
+    Reached g k buf →
+    s ≡ take (k .held) buf →
+    Came g (k .over) s x g′ k′ buf′ →
+    Reached g′ k′ buf′
+reached-more {k = k} {x = x} w e c =
+    let h : Stands (k .over) _ (w .left) = rw (sym e) at (w .stands) in
+    let a = part (w .told) c h in
+    record { input = w .input ++ x; left = a .rest; printed = w .printed ++ a .printed; told = input-more (w .told) c h; stands = a .kept }
 
 -- ---- the end of the input
 all-last : (w : Run) (ps : List (List ℕ)) (p : List ℕ) → runInput w (ps ++ (p ∷ [])) ≡ runLast (runWhole w ps) p

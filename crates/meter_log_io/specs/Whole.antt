@@ -6,6 +6,7 @@ use mathlib.Core.Bool.{Bool, true, false}
 use lib.ListN.{length, take, drop}
 use Rattle.text.specs.Text.{cut}
 use Rattle.meter_log_told.specs.declared.Log.{Log}
+use Rattle.meter_log_told.specs.declared.Log.the-variants as L
 use Rattle.meter_log_told.specs.Told.{lineLimit}
 use Rattle.meter_log_lines.specs.Lines.{Run, runWhole}
 use Rattle.meter_log_lines.specs.Printed.{runLast}
@@ -48,3 +49,17 @@ pub record Came (g : Log) (over : Bool) (s x : List ℕ) (g′ : Log) (k : Kept)
 -- the input ended with a line under way, for which the bytes s stand: whichever these are, `printed` is what is told of it
 pub record Ended (g : Log) (over : Bool) (s printed : List ℕ) : Type 0 where
   pub last : (p : List ℕ) → Stands over s p → printed ≡ runLast (record { log = g; printed = [] }) p .printed
+
+-- bytes t came in all: their whole lines were told, p is what is left of them, and `printed` what was printed
+pub record Input (t : List ℕ) (g : Log) (p printed : List ℕ) : Type 0 where
+  pub told : List (List ℕ)
+  pub pieces : cut 10 t ≡ told ++ (p ∷ [])
+  pub run : _≡_ {A = Run} (record { log = g; printed = printed }) (runWhole (record { log = L.Start; printed = [] }) told)
+
+-- the program after its reads: log and what is held are those of an input, all of whose whole lines were told
+pub record Reached (g : Log) (k : Kept) (buf : List ℕ) : Type 0 where
+  pub input : List ℕ
+  pub left : List ℕ
+  pub printed : List ℕ
+  pub told : Input input g left printed
+  pub stands : Stands (k .over) (take (k .held) buf) left

@@ -1,7 +1,7 @@
 // The log program: a log from standard input to its end, and a line for each of its lines on standard output. What is printed for which
 // line is the contract of `meter_log_lines::tell_lines`, and for the last one, where no line feed ends it, of `put_last`; that no byte is
-// lost or read twice between two reads is that of `more`, for every way in which the input may come in parts (proofs/InParts.antt). `run`
-// is only the loop that reads and prints; it is safe and ends.
+// lost or read twice between two reads is that of `more`, and of `tell_input` for every way in which the input may come in parts. `run`
+// only lends the buffers.
 use meter_log_told::Log;
 ghost use mathlib.Core.Path.{_≡_};
 ghost use mathlib.Core.List.{[]};
@@ -9,7 +9,7 @@ ghost use mathlib.Core.Bool.{true};
 ghost use Prim.Native.Nat.{_+_, _≤_, _<_};
 ghost use lib.ListN.{length, take};
 ghost use Rattle.meter_log_told.specs.Told.{lineLimit, tellLong};
-ghost use Rattle.meter_log_io.specs.Whole.{between, Stands, Past, AllTold, Came, Ended};
+ghost use Rattle.meter_log_io.specs.Whole.{between, Stands, Past, AllTold, Came, Ended, Reached};
 
 // The whole lines of a buffer are told: the log after them, and where they end.
 struct Passed {
@@ -163,10 +163,11 @@ fn read_more(buf: &mut [u8], held: usize, left: u64) -> InputRead
     }
 }
 
-// At most 2^64 - 1 bytes are read, so that the loop ends.
-pub fn run() {
-    let mut buf = io::large_buffer();
-    let mut out = io::large_buffer();
+// Reads the input to its end and tells its whole lines. At most 2^64 - 1 bytes are read, so that it ends.
+fn tell_input(buf: &mut [u8], out: &mut [u8]) -> LogAfter
+    requires { ⌜ (length (now buf) ≡ lineLimit + 1) × (64 ≤ length (now out)) ⌝ }
+    ensures { λ r. ⌜ Reached (r .log) (r .kept) (now (buf .exit)) × (r .kept .held < length (now (buf .entry))) ⌝ }
+{
     let mut log = Log::Start;
     let mut kept = Kept {
         over: false,
@@ -174,14 +175,23 @@ pub fn run() {
     };
     let mut left: u64 = 18446744073709551615;
     while left != 0 {
-        let input = read_more(&mut buf, kept.held, left);
-        let q = more(log, kept, input.count, &mut buf, &mut out);
+        let input = read_more(buf, kept.held, left);
+        let q = more(log, kept, input.count, buf, out);
         let next = q.log;
         log = next;
         let k = q.kept;
         kept = k;
         left = input.left;
     }
+    LogAfter { log, kept }
+}
+
+pub fn run() {
+    let mut buf = io::large_buffer();
+    let mut out = io::large_buffer();
+    let q = tell_input(&mut buf, &mut out);
+    let log = q.log;
+    let kept = q.kept;
     let k = put_last(log, kept, &buf, &mut out);
     trial_bytes::print(&out, k);
 }

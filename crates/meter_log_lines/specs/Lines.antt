@@ -33,6 +33,7 @@ pub record Tells (g : Log) (text out : List ℕ) (r : TextTold) (out′ : List �
   pub run : _≡_ {A = Run} (record { log = r .log; printed = take (r .filled) out′ }) (runWhole (record { log = g; printed = [] }) told)
   pub room : r .filled ≤ length out
   pub rest : drop (r .filled) out′ ≡ drop (r .filled) out
-  -- no whole line is left, or less room than a line may need and a line was told
+  -- no whole line is left, or less room than a line may need
   pub ends : (cut 10 (drop (r .used) text) ≡ drop (r .used) text ∷ []) ⊎ (length out < r .filled + 64)
+  -- where none was told nothing is written
   pub some : r .used ≡ 0 → r .filled ≡ 0
