@@ -13,31 +13,34 @@ use Rattle.meter_log_lines.specs.Lines.{Run, runWhole}
 use Rattle.meter_log_lines.specs.Printed.{runLast, runInput, printedOf}
 use Rattle.meter_log_lines.proofs.Laws.{from, run-then}
 use Rattle.meter_log_io.specs.declared.Kept.{Kept}
-use Rattle.meter_log_io.specs.Whole.{Stands, all, AllTold, Came, Ended, Input, Reached}
+use Rattle.meter_log_io.specs.Whole.{Stands, all, Past, AllTold, Came, Ended, Reached}
 
-pub input-none : Input [] L.Start [] []
+-- nothing came
+pub input-none : Past L.Start [] [] L.Start
 unfolding cut runWhole
-input-none = record { told = []; pieces = refl; run = refl }
+input-none = record { told = []; printed = []; pieces = refl; run = refl }
 
 -- more bytes came, by the contract of `more`: all is told of them together
-module _ {t : List ℕ} {g : Log} {p printed : List ℕ} (i : Input t g p printed) {o : Bool} {s x : List ℕ} {g′ : Log} {k : Kept} {buf′ : List ℕ} (c : Came g o s x g′ k buf′) (h : Stands o s p) where
+module _ {t : List ℕ} {g : Log} {p : List ℕ} (i : Past L.Start t p g) {o : Bool} {s x : List ℕ} {g′ : Log} {k : Kept} {buf′ : List ℕ} (c : Came g o s x g′ k buf′) (h : Stands o s p) where
   abbrev part : AllTold g (p ++ x) g′ k buf′
   part = c .whole p (last-piece 10 t (i .told) p (i .pieces)) h
 
-  pub input-more : Input (t ++ x) g′ (part .rest) (printed ++ part .printed)
+  pub input-more : Past L.Start (t ++ x) (part .rest) g′
   input-more =
+      let y = part .past in
       record {
-        told = i .told ++ part .told;
+        told = i .told ++ y .told;
+        printed = i .printed ++ y .printed;
         pieces =
             last-goes-on 10 t (i .told) p (i .pieces) x
-            ∙ ap (λ (z : List (List ℕ)). i .told ++ z) (part .pieces)
-            ∙ sym (append-assoc (i .told) (part .told) (part .rest ∷ []));
-        run = run-then L.Start g g′ printed (part .printed) (i .told) (part .told) (i .run) (part .run);
+            ∙ ap (λ (z : List (List ℕ)). i .told ++ z) (y .pieces)
+            ∙ sym (append-assoc (i .told) (y .told) (part .rest ∷ []));
+        run = run-then L.Start g g′ (i .printed) (y .printed) (i .told) (y .told) (i .run) (y .run);
       }
 
 -- the program before its first read, and after one more, which leaves what is held
 pub reached-none : (buf : List ℕ) → Reached L.Start (record { over = false; held = 0 }) buf
-reached-none buf = record { input = []; left = []; printed = []; told = input-none; stands = all {p = []} refl (omega arith) }
+reached-none buf = record { input = []; left = []; past = input-none; stands = all {p = []} refl (omega arith) }
 
 pub reached-more :
     {g : Log} {k : Kept} {buf : List ℕ} {s x : List ℕ} {g′ : Log} {k′ : Kept} {buf′ : List ℕ} →
@@ -47,8 +50,8 @@ pub reached-more :
     Reached g′ k′ buf′
 reached-more {k = k} {x = x} w e c =
     let h : Stands (k .over) _ (w .left) = rw (sym e) at (w .stands) in
-    let a = part (w .told) c h in
-    record { input = w .input ++ x; left = a .rest; printed = w .printed ++ a .printed; told = input-more (w .told) c h; stands = a .kept }
+    let a = part (w .past) c h in
+    record { input = w .input ++ x; left = a .rest; past = input-more (w .past) c h; stands = a .kept }
 
 -- ---- the end of the input
 all-last : (w : Run) (ps : List (List ℕ)) (p : List ℕ) → runInput w (ps ++ (p ∷ [])) ≡ runLast (runWhole w ps) p
@@ -57,7 +60,7 @@ all-last w [] p = refl
 all-last w (q ∷ []) p = refl
 all-last w (q ∷ r ∷ ps) p = all-last _ (r ∷ ps) p
 
-input-all : {t : List ℕ} {g : Log} {p printed : List ℕ} → Input t g p printed → runLast (record { log = g; printed = printed }) p .printed ≡ printedOf t
+input-all : {t : List ℕ} {g : Log} {p : List ℕ} (i : Past L.Start t p g) → runLast (record { log = g; printed = i .printed }) p .printed ≡ printedOf t
 unfolding printedOf
 input-all {p = p} i =
     ap (λ (w : Run). runLast w p .printed) (i .run)
@@ -69,7 +72,5 @@ last-behind g [] printed = append-nil printed
 last-behind g (b ∷ p) printed = refl
 
 -- with the line that no line feed ends, by the contract of `put_last`, all is printed that the whole input prints
-pub input-ends :
-    {t : List ℕ} {g : Log} {p printed : List ℕ} {o : Bool} {s q : List ℕ} → Input t g p printed → Ended g o s q → Stands o s p → printed ++ q ≡ printedOf t
-input-ends {g = g} {p = p} {printed = printed} i e h =
-    ap (λ (z : List ℕ). printed ++ z) (e .last p h) ∙ last-behind g p printed ∙ input-all i
+pub input-ends : {t : List ℕ} {g : Log} {p : List ℕ} {o : Bool} {s q : List ℕ} (i : Past L.Start t p g) → Ended g o s q → Stands o s p → i .printed ++ q ≡ printedOf t
+input-ends {g = g} {p = p} i e h = ap (λ (z : List ℕ). i .printed ++ z) (e .last p h) ∙ last-behind g p (i .printed) ∙ input-all i

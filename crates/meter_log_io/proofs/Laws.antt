@@ -84,7 +84,7 @@ pub whole :
     Past g t u g′ →
     Stands (k .over) (take (k .held) buf′) u →
     AllTold g t g′ k buf′
-whole {u = u} p a = record { told = p .told; rest = u; printed = p .printed; pieces = p .pieces; run = p .run; kept = a }
+whole {u = u} p a = record { rest = u; past = p; kept = a }
 
 -- ---- an over-long line goes on
 long-whole : (g : Log) (p : List ℕ) → lineLimit < length p → tellWhole g p ≡ tellLong g
@@ -116,11 +116,8 @@ module _ (s : List ℕ) (n e : ℕ) (m : n ≤ length s) (q : e ≡ 0 + placeOf 
         whole =
             λ p one st.
             record {
-              told = [];
               rest = p ++ x;
-              printed = [];
-              pieces = piece-all 10 p x one (cut-none 10 x (omega (arith, q, h, wide)));
-              run = refl;
+              past = record { told = []; printed = []; pieces = piece-all 10 p x one (cut-none 10 x (omega (arith, q, h, wide))); run = refl };
               kept = over {p = p ++ x} refl (omega (arith, over-long st, length-append p x));
             };
         room = b;
@@ -145,12 +142,16 @@ module _ (s : List ℕ) (n e : ℕ) (m : n ≤ length s) (q : e ≡ 0 + placeOf 
             let o = p ++ v in
             let b : lineLimit < length o = omega (arith, over-long st, length-append p v) in
             let r = toldBytes (tellLong g .told) in
+            let y = w .past in
             record {
-              told = o ∷ w .told;
               rest = w .rest;
-              printed = r ++ w .printed;
-              pieces = piece-to 10 p x one v (cut 10 u) c ∙ ap (λ (z : List (List ℕ)). o ∷ z) (w .pieces);
-              run = run-then g g₁ g′ r (w .printed) (o ∷ []) (w .told) (long-run g o b l) (w .run);
+              past =
+                  record {
+                    told = o ∷ y .told;
+                    printed = r ++ y .printed;
+                    pieces = piece-to 10 p x one v (cut 10 u) c ∙ ap (λ (z : List (List ℕ)). o ∷ z) (y .pieces);
+                    run = run-then g g₁ g′ r (y .printed) (o ∷ []) (y .told) (long-run g o b l) (y .run);
+                  };
               kept = w .kept;
             };
         room = b₁;

@@ -21,7 +21,7 @@ pub data Stands : Bool → List ℕ → List ℕ → Type 0 where
   all : {s p : List ℕ} → s ≡ p → length p ≤ lineLimit → Stands false s p
   over : {s p : List ℕ} → s ≡ [] → lineLimit < length p → Stands true s p
 
--- of bytes t after the log g the whole lines up to u were told, and no whole line is left in u
+-- of bytes t after the log g the whole lines were told, and u, which is not one, is left of them
 pub record Past (g : Log) (t u : List ℕ) (g′ : Log) : Type 0 where
   pub told : List (List ℕ)
   -- what they print, in their order
@@ -29,15 +29,11 @@ pub record Past (g : Log) (t u : List ℕ) (g′ : Log) : Type 0 where
   pub pieces : cut 10 t ≡ told ++ (u ∷ [])
   pub run : _≡_ {A = Run} (record { log = g′; printed = printed }) (runWhole (record { log = g; printed = [] }) told)
 
--- of bytes t that came after the log g every whole line was told, and printed bytes are theirs; the rest is held in the buffer's front
+-- of bytes t that came after the log g every whole line was told, and the rest is held in the buffer's front
 pub record AllTold (g : Log) (t : List ℕ) (g′ : Log) (k : Kept) (buf′ : List ℕ) : Type 0 where
-  pub told : List (List ℕ)
   -- what stands after the last line feed
   pub rest : List ℕ
-  -- what the lines print, in their order
-  pub printed : List ℕ
-  pub pieces : cut 10 t ≡ told ++ (rest ∷ [])
-  pub run : _≡_ {A = Run} (record { log = g′; printed = printed }) (runWhole (record { log = g; printed = [] }) told)
+  pub past : Past g t rest g′
   pub kept : Stands (k .over) (take (k .held) buf′) rest
 
 -- bytes x came after those of a line under way, for which the bytes s stand: whichever these are, all is told
@@ -50,16 +46,9 @@ pub record Came (g : Log) (over : Bool) (s x : List ℕ) (g′ : Log) (k : Kept)
 pub record Ended (g : Log) (over : Bool) (s printed : List ℕ) : Type 0 where
   pub last : (p : List ℕ) → Stands over s p → printed ≡ runLast (record { log = g; printed = [] }) p .printed
 
--- bytes t came in all: their whole lines were told, p is what is left of them, and `printed` what was printed
-pub record Input (t : List ℕ) (g : Log) (p printed : List ℕ) : Type 0 where
-  pub told : List (List ℕ)
-  pub pieces : cut 10 t ≡ told ++ (p ∷ [])
-  pub run : _≡_ {A = Run} (record { log = g; printed = printed }) (runWhole (record { log = L.Start; printed = [] }) told)
-
 -- the program after its reads: log and what is held are those of an input, all of whose whole lines were told
 pub record Reached (g : Log) (k : Kept) (buf : List ℕ) : Type 0 where
   pub input : List ℕ
   pub left : List ℕ
-  pub printed : List ℕ
-  pub told : Input input g left printed
+  pub past : Past L.Start input left g
   pub stands : Stands (k .over) (take (k .held) buf) left
