@@ -11,6 +11,7 @@ than two edits, and on an edit of a definition or a theorem's statement without 
 
 import re
 import sys
+import textwrap
 from pathlib import Path
 
 ROOT = Path(__file__).resolve().parent.parent
@@ -247,7 +248,7 @@ def page(claims, named, why, there):
         if c.section != section:
             section = c.section
             out.append(f"## {section}\n")
-        out.append(f"**{c.ident}** {c.sentence}\n")
+        out.append("\n".join(textwrap.wrap(f"**{c.ident}** {c.sentence}", 120)) + "\n")
         out += ["| crate | edit | changes | the wrong program |", "|---|---|---|---|"]
         for e in edits:
             if e in there:
