@@ -6,7 +6,8 @@
 
 It fails on a name in CLAIMS.md that its file does not define, on a file that is not there, on an edit that no claim names, on
 an edit named that is not there, on a claim in edits.txt that CLAIMS.md does not have, on a public call's claim with fewer
-than two edits, and on an edit of a definition or a theorem's statement without a reason (`[why]` in edits.txt).
+than two edits, on an edit of a definition or a theorem's statement without a reason (`[why]` in edits.txt), on a file of a
+crate that a page names and that is not there, and on a file of definitions that READING.md does not name.
 """
 
 import re
@@ -198,6 +199,20 @@ def check_names(claims):
                 fail(f"{c.ident}: {n} is not defined in {', '.join(c.files)} (it is in: {places_of(n)})")
 
 
+def check_pages():
+    """Every file of a crate that a page names is there, and READING.md names every file of definitions."""
+    pages = [ROOT / "README.md"] + [p for p in sorted((ROOT / "docs").glob("*.md")) if p.name not in ("EDITS.md", "LANDINGS.md")]
+    for page in pages:
+        for name in ticked(page.read_text(encoding="utf-8")):
+            if re.fullmatch(r"\w+/(specs|proofs|src)/[\w/]*(\.\w+)?", name) and not (CRATES / name).exists():
+                fail(f"{page.relative_to(ROOT)}: no file {name}")
+    reading = ticked((ROOT / "docs" / "READING.md").read_text(encoding="utf-8"))
+    for f in sorted(CRATES.glob("*/specs/*.antt")):
+        name = str(f.relative_to(CRATES))
+        if f.name != "Lib.antt" and name not in reading:
+            fail(f"docs/READING.md does not say whether {name} is to be read or internal")
+
+
 def tidy(named, why, there):
     """Edits that are in another crate now, and such that are nowhere."""
     known = {e for edits in named.values() for e in edits}
@@ -275,6 +290,7 @@ def main():
         tidy(named, why, there)
         named, why = read_list()
     check_names(claims)
+    check_pages()
     check_edits(claims, named, why, there)
     made = page(claims, named, why, there)
     if mode == "--check":
