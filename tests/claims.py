@@ -179,6 +179,11 @@ def places_of(name):
     return ", ".join(places[:4]) or "nowhere"
 
 
+def declares(path, name):
+    """Whether a function or type of this name is declared in a source file."""
+    return re.search(rf"\b(fn|struct|enum) {name}\b", path.read_text(encoding="utf-8")) is not None
+
+
 def check_names(claims):
     for c in claims.values():
         for f in c.files:
@@ -186,15 +191,10 @@ def check_names(claims):
                 fail(f"{c.ident}: no file {f}")
         for n in c.names:
             if "::" in n:
-                crate, function = n.split("::")
-                places = sorted((CRATES / crate / "src").glob("*.rt"))
-                if not any(re.search(rf"\bfn {function}\b", p.read_text(encoding="utf-8")) for p in places):
-                    found = sorted(
-                        p.parent.parent.name
-                        for p in CRATES.glob("*/src/*.rt")
-                        if re.search(rf"\bfn {function}\b", p.read_text(encoding="utf-8"))
-                    )
-                    fail(f"{c.ident}: no function {n} (one of that name: {', '.join(found) or 'nowhere'})")
+                crate, name = n.split("::")
+                found = [p.parent.parent.name for p in sorted(CRATES.glob("*/src/*.rt")) if declares(p, name)]
+                if crate not in found:
+                    fail(f"{c.ident}: no {n} (one of that name: {', '.join(found) or 'nowhere'})")
             elif not any(defines(t, n) for f in c.files for t in sources(f)):
                 fail(f"{c.ident}: {n} is not defined in {', '.join(c.files)} (it is in: {places_of(n)})")
 
