@@ -1,6 +1,6 @@
 #!/bin/sh
-# All that the gate cannot hold, one line each with its seconds: tests/all.sh. Fails if any fails; what each printed stands in
-# target/tests/all/NAME.
+# All that the gate cannot hold, one line each with its seconds; fails if any fails. What each printed stands in
+# target/tests/all/NAME. (`exports` runs the examples in C and Rust too.)
 set -u
 cd "$(dirname "$0")/.."
 for tool in rt gcc g++ rustc python3 objdump; do command -v "$tool" > /dev/null || { echo "missing: $tool"; exit 2; }; done
@@ -27,10 +27,13 @@ try() {
 try claims python3 tests/claims.py --check
 try lines python3 tests/lines.py
 try self_check python3 tests/self_check.py
-try c sh examples/c.sh
-try rust sh examples/rust.sh
-if [ -f examples/durable.sh ]; then try durable sh examples/durable.sh; fi
+# The library is proved and built once, for all that follow.
+try library rt staticlib cop_c
+export COP_BUILD=true
 try exports sh tests/exports.sh
+for folder in examples tests; do
+    if [ -f $folder/durable.sh ]; then try "durable_$folder" sh $folder/durable.sh; fi
+done
 try differential sh tests/differential.sh
 try log sh tests/log.sh
 try tags sh bench/tags.sh
