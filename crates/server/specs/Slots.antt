@@ -1,4 +1,4 @@
--- A server by its parts.
+-- Internal: a server by its parts.
 use Prim.Native.Nat.{ℕ}
 use mathlib.Core.List.{List}
 use Rattle.server.specs.declared.Server.{Server}

@@ -1,4 +1,4 @@
--- What the code of a line hands back, as the definitions have it.
+-- Internal: what the code of a line hands back, as the definitions have it.
 use mathlib.Core.List.{List}
 use Rattle.trial_said.specs.Word.{wordOf}
 use Rattle.replica.specs.declared.Replica.{Replica}
