@@ -15,7 +15,8 @@ use Rattle.round_trips.proofs.Messages.{broadcast-read}
 use Rattle.verify.specs.Verify.{linkValue, commitTag}
 use Rattle.replica.proofs.Laws.{Sound}
 use Rattle.replica.proofs.Places.{first-value}
-use Rattle.client_broadcast.specs.Broadcast.{commitOk, nextValue, confirmedReplica}
+use Rattle.message.specs.Content.{commitOk}
+use Rattle.client_broadcast.specs.Broadcast.{nextValue, confirmedReplica}
 use Rattle.client_laws.proofs.Invoke.{open-sound}
 use Rattle.client_laws.proofs.Broadcast.{next-none}
 use Rattle.agreement.specs.WholeRuns.{Call, invoke, receive, caller, messageOf, stepOf, start, update, Logged, logOf, allOf, taken, Confirmation, entryOf, history, entries, strings, Carried, broadcastCarried, tags, tagBy, Tagged, LetOff, forgery, Agreement}

@@ -21,7 +21,8 @@ use Rattle.replica.specs.Outcome.{opened, confirmed}
 use Rattle.replica.specs.Replica.{After, Step, inRange, freshReplica, zeroReplica, refuse}
 use Rattle.client_open.specs.Open.{openNo, openStep}
 use Rattle.client_invoke.specs.Invoke.{invokeNo}
-use Rattle.client_broadcast.specs.Broadcast.{commitOk, seqOk, nextValue, digestOk, broadcastNo, confirmedReplica, broadcastStep}
+use Rattle.message.specs.Content.{commitOk}
+use Rattle.client_broadcast.specs.Broadcast.{seqOk, nextValue, digestOk, broadcastNo, confirmedReplica, broadcastStep}
 use Rattle.client_broadcast.proofs.Laws.{broadcast-goes}
 use Rattle.client_reply.specs.Reply.{replyStep}
 use Rattle.checks.proofs.Laws.{cond-cases}

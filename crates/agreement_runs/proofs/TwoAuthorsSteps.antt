@@ -13,7 +13,8 @@ use Rattle.verify.specs.Verify.{linkValue}
 use Rattle.replica.specs.Places.{valueAt}
 use Rattle.replica.proofs.Places.{first-value}
 use Rattle.replica.proofs.Laws.{Sound}
-use Rattle.client_broadcast.specs.Broadcast.{commitOk, nextValue, confirmedReplica}
+use Rattle.message.specs.Content.{commitOk}
+use Rattle.client_broadcast.specs.Broadcast.{nextValue, confirmedReplica}
 use Rattle.client_reply_check.specs.ReplyChecks.{listedOk, itemChainOk, isUncommitted, replyNo}
 use Rattle.client_reply.specs.Reply.{chainAfter, sortItem, sortTo, isAborted, lastResponse, repliedReplica}
 use Rattle.client_laws.proofs.Invoke.{open-sound}

@@ -18,7 +18,8 @@ use Rattle.replica.specs.Outcome.{isStop, confirmed}
 use Rattle.checks.specs.Checks.{firstNo}
 use Rattle.checks.proofs.Laws.{first-stays, all-yes, first-among, every-yes, and-yes}
 use Rattle.replica.specs.Replica.{stop, inRange}
-use Rattle.client_broadcast.specs.Broadcast.{commitOk, nextValue, digestOk, formChecks, contentChecks, proofChecks, broadcastNo, confirmedReplica, broadcastStep}
+use Rattle.message.specs.Content.{commitOk}
+use Rattle.client_broadcast.specs.Broadcast.{nextValue, digestOk, formChecks, contentChecks, proofChecks, broadcastNo, confirmedReplica, broadcastStep}
 
 -- ---- the stages of the checks
 module _ (r : Replica) (m : List ℕ) where

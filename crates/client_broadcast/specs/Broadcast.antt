@@ -1,23 +1,20 @@
 -- Taking a broadcast. Document 01, "What a van does" (`BR`) and "The questions, in order".
 use Prim.Native.Nat.{ℕ, _+_, _-_}
 use mathlib.Core.List.{List, [], _∷_, _++_}
-use mathlib.Core.Bool.{Bool, true, cond, _&&_}
+use mathlib.Core.Bool.{Bool, cond, _&&_}
 use lib.Dec.{leb, eqb}
 use Rattle.slices.specs.Bytes.{same}
-use Rattle.operation.specs.Operation.{opOk, effect}
+use Rattle.operation.specs.Operation.{effect}
 use Rattle.message.specs.declared.Commit.{Commit}
-use Rattle.message.specs.Layout.{clientCount, maxSeq}
+use Rattle.message.specs.Layout.{maxSeq}
 use Rattle.message.specs.Message.{isBroadcast, commitOf}
+use Rattle.message.specs.Content.{commitOk}
 use Rattle.verify.specs.Verify.{commitTagOk, linkValue}
 use Rattle.replica.specs.declared.Replica.{Replica}
 use Rattle.replica.specs.Outcome.{confirmed}
 use Rattle.replica.specs.Places.{valueAt, confirmValue, confirmStatus}
-use Rattle.checks.specs.Checks.{every, firstNo}
+use Rattle.checks.specs.Checks.{firstNo}
 use Rattle.replica.specs.Replica.{After, readyChecks, stop}
-
--- 21: "entry, author, status allowed?"
-unfoldable pub commitOk : Commit → Bool
-commitOk k = every true (opOk (k .op) ∷ leb 1 (k .author) ∷ leb (k .author) clientCount ∷ leb (k .status) 1 ∷ [])
 
 -- 25: "Place c + 1 and at most 1,000,000?"
 abbrev pub seqOk : Replica → Commit → Bool
@@ -34,7 +31,7 @@ nextValue r k =
 unfoldable pub digestOk : Replica → Commit → Bool
 digestOk r k = same (k .digest) (nextValue r k)
 
--- the checks in their order: 8, 3, 20; 21, 25; 22, 23
+-- the checks in their order: 8, 3, 20; 21 ("entry, author, status allowed?"), 25; 22, 23
 abbrev pub formChecks : Replica → List ℕ → List (Bool × ℕ)
 formChecks r m = readyChecks r ++ ((isBroadcast m, 20) ∷ [])
 

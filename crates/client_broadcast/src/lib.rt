@@ -4,16 +4,9 @@ ghost use Prim.Native.Nat.{_+_, _≤_};
 ghost use lib.ListN.{length};
 ghost use Rattle.message.specs.Layout.{clientCount};
 ghost use Rattle.checks.specs.Checks.{firstNo};
-ghost use Rattle.client_broadcast.specs.Broadcast.{commitOk, seqOk, nextValue, formChecks, contentChecks, proofChecks, broadcastNo};
+ghost use Rattle.client_broadcast.specs.Broadcast.{seqOk, nextValue, formChecks, contentChecks, proofChecks, broadcastNo};
 use message::Commit;
 use replica::Replica;
-
-fn commit_ok(k: Commit) -> bool
-    ensures { λ r. ⌜ r ≡ commitOk k ⌝ }
-{
-    let e = k.op;
-    operation::op_ok(e) & (1 <= k.author) & (k.author <= message::CLIENTS) & (k.status <= 1)
-}
 
 fn seq_ok(r: Replica, k: Commit) -> bool
     ensures { λ q. ⌜ q ≡ seqOk r k ⌝ }
@@ -44,7 +37,7 @@ fn form_check(r: Replica, m: &[u8]) -> u8
 fn content_check(r: Replica, k: Commit) -> u8
     ensures { λ q. ⌜ q ≡ firstNo 0 (contentChecks r k) ⌝ }
 {
-    let q = checks::also(0, commit_ok(k), 21);
+    let q = checks::also(0, message::commit_ok(k), 21);
     checks::also(q, seq_ok(r, k), 25)
 }
 

@@ -15,7 +15,8 @@ use Rattle.replica.specs.Replica.{noCurrent, inRange}
 use Rattle.checks.proofs.Laws.{Yes}
 use Rattle.client_invoke.specs.Invoke.{invokeChecks, invokeNo}
 use Rattle.client_broadcast.specs.Broadcast as B
-use Rattle.client_broadcast.specs.Broadcast.{commitOk, seqOk, digestOk, contentChecks, proofChecks, broadcastNo}
+use Rattle.message.specs.Content.{commitOk}
+use Rattle.client_broadcast.specs.Broadcast.{seqOk, digestOk, contentChecks, proofChecks, broadcastNo}
 use Rattle.client_reply_check.specs.ReplyChecks.{replyFormChecks, itemChecks, itemsChecks, lastChecks, lastOk, replyNo}
 
 pub yes-first : (qs : List (Bool × ℕ)) → Yes qs → firstNo 0 qs ≡ 0

@@ -1,13 +1,14 @@
 -- The checks of a reply. Document 01, "The questions, in order" (`RE`); 26: document 02, Q-4.
 use Prim.Native.Nat.{ℕ, zero, suc, _+_, _-_}
 use mathlib.Core.List.{List, [], _∷_, _++_}
-use mathlib.Core.Bool.{Bool, true, cond, not}
+use mathlib.Core.Bool.{Bool, true, cond, not, _&&_}
 use lib.Dec.{ltb, leb, eqb}
 use Rattle.slices.specs.Bytes.{same}
 use Rattle.operation.specs.Operation.{opOk, sameOp}
 use Rattle.message.specs.declared.Item.{Item}
-use Rattle.message.specs.Layout.{clientCount, maxSeq, commitLength}
+use Rattle.message.specs.Layout.{maxSeq, commitLength}
 use Rattle.message.specs.Message.{isReply, replyCount, replyItem}
+use Rattle.message.specs.Content.{contentOk}
 use Rattle.verify.specs.Verify.{itemTagOk, linkValue}
 use Rattle.replica.specs.declared.Replica.{Replica}
 use Rattle.replica.specs.Places.{valueAt, statusAt}
@@ -21,7 +22,7 @@ seqAt c k = c + (k + 1)
 
 -- 21: "entry, author allowed and place at most 1,000,000?"
 unfoldable pub listedOk : ℕ → ℕ → Item → Bool
-listedOk c k i = every true (opOk (i .op) ∷ leb 1 (i .author) ∷ leb (i .author) clientCount ∷ leb (seqAt c k) maxSeq ∷ [])
+listedOk c k i = contentOk opOk (i .op) (i .author) && leb (seqAt c k) maxSeq
 
 -- the chain value of item k, from the value before it in the chain
 unfoldable pub itemValue : ℕ → ℕ → Item → List ℕ → List ℕ

@@ -17,10 +17,7 @@ fn listed_ok(c: u32, k: usize, i: Item) -> bool
 {
     let e = i.op;
     let seq = c as u64 + (k as u64 + 1);
-    operation::op_ok(e)
-        & (1 <= i.author)
-        & (i.author <= message::CLIENTS)
-        & (seq <= message::MAX_SEQ as u64)
+    message::content_ok(e, i.author) & (seq <= message::MAX_SEQ as u64)
 }
 
 // The chain value of item `k`, from the one before it.

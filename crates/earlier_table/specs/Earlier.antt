@@ -2,17 +2,18 @@
 use Prim.Native.Nat.{ℕ, zero, suc}
 use mathlib.Core.Path.{_≡_}
 use mathlib.Core.List.{List, [], _∷_, _++_}
-use mathlib.Core.Bool.{Bool, true, not, _&&_, _||_}
+use mathlib.Core.Bool.{Bool, not, _&&_, _||_}
 use mathlib.Core.Logic.{_⊎_}
 use lib.Dec.{leb, eqb}
 use Rattle.operation.specs.declared.Operation.{Operation}
 use Rattle.operation.specs.Operation.{maxCount}
 use Rattle.message.specs.declared.Item.{Item}
 use Rattle.message.specs.declared.Commit.{Commit}
-use Rattle.message.specs.Layout.{clientCount, maxSeq}
+use Rattle.message.specs.Layout.{maxSeq}
 use Rattle.message.specs.Message.{replyCount, replyItem, commitOf}
+use Rattle.message.specs.Content.{contentOk, statusOk}
 use Rattle.replica.specs.declared.Replica.{Replica}
-use Rattle.checks.specs.Checks.{every, firstNo}
+use Rattle.checks.specs.Checks.{firstNo}
 use Rattle.client_broadcast.specs.Broadcast.{seqOk, formChecks, proofChecks}
 use Rattle.client_reply_check.specs.ReplyChecks.{seqAt, itemProofChecks, replyFormChecks, lastChecks}
 
@@ -29,10 +30,10 @@ TempKind e = (e .kind ≡ 5) ⊎ (e .kind ≡ 6)
 
 -- 21 with that table, of a `BR` and of item k of a `RE`
 unfoldable pub earlierCommitOk : Commit → Bool
-earlierCommitOk k = every true (earlierOk (k .op) ∷ leb 1 (k .author) ∷ leb (k .author) clientCount ∷ leb (k .status) 1 ∷ [])
+earlierCommitOk k = contentOk earlierOk (k .op) (k .author) && statusOk (k .status)
 
 unfoldable pub earlierListedOk : ℕ → ℕ → Item → Bool
-earlierListedOk c k i = every true (earlierOk (i .op) ∷ leb 1 (i .author) ∷ leb (i .author) clientCount ∷ leb (seqAt c k) maxSeq ∷ [])
+earlierListedOk c k i = contentOk earlierOk (i .op) (i .author) && leb (seqAt c k) maxSeq
 
 -- its checks of a `BR`, in their order: this client's (`broadcastNo`), with that check 21
 unfoldable pub earlierBroadcastNo : Replica → List ℕ → ℕ

@@ -15,7 +15,7 @@ use Rattle.operation.specs.Operation.{opBytes}
 use Rattle.slices.proofs.Laws.{and-yes, part-left}
 use Rattle.message.specs.declared.Item.{Item}
 use Rattle.message.specs.declared.Commit.{Commit}
-use Rattle.message.specs.Layout.{digestAt}
+use Rattle.message.specs.Layout.{invokeMark, replyMark, commitMark, broadcastMark, digestAt}
 use Rattle.message.specs.Readers.{ItemsFit, none, more}
 use Rattle.message.specs.Message.{invokeString, commitString, chainString, itemBytes, itemsBytes, commitFields, invokeBytes, replyBytes, commitBytes, broadcastBytes, marked, isInvoke, isReply, isCommit, isBroadcast, replyCount}
 
@@ -76,11 +76,11 @@ module _ (s v : List ℕ) (i : ℕ) (l : length v ≡ 32) (h : i * 32 + 32 ≤ l
 
 -- ---- the same bytes, taken apart another way
 -- an invoke is its mark and an item; a commit its mark and the fields that a broadcast has too
-pub invoke-item : (i : Item) → invokeBytes i ≡ 73 ∷ 78 ∷ itemBytes i
+pub invoke-item : (i : Item) → invokeBytes i ≡ invokeMark ++ itemBytes i
 unfolding invokeBytes invokeString itemBytes opBytes bigEndian
 invoke-item i = refl
 
-pub commit-marked : (k : Commit) → commitBytes k ≡ 67 ∷ 79 ∷ commitFields k
+pub commit-marked : (k : Commit) → commitBytes k ≡ commitMark ++ commitFields k
 unfolding commitBytes commitString commitFields
 commit-marked k = refl
 
@@ -100,41 +100,41 @@ unfolding itemsBytes
 items-more is i = items-join is (i ∷ []) ∙ ap (λ (s : List ℕ). itemsBytes is ++ s) (append-nil (itemBytes i))
 
 -- ---- tests
-pub invoke-mark : (m : List ℕ) → isInvoke m ≡ true → marked 73 78 m ≡ true
+pub invoke-mark : (m : List ℕ) → isInvoke m ≡ true → marked invokeMark m ≡ true
 unfolding isInvoke
-invoke-mark m e = and-yes (marked 73 78 m) _ e .0
+invoke-mark m e = and-yes (marked invokeMark m) _ e .0
 
 pub invoke-length : (m : List ℕ) → isInvoke m ≡ true → length m ≡ 43
 unfolding isInvoke
-invoke-length m e = eqb-true _ _ (and-yes (marked 73 78 m) _ e .1)
+invoke-length m e = eqb-true _ _ (and-yes (marked invokeMark m) _ e .1)
 
-pub commit-mark : (m : List ℕ) → isCommit m ≡ true → marked 67 79 m ≡ true
+pub commit-mark : (m : List ℕ) → isCommit m ≡ true → marked commitMark m ≡ true
 unfolding isCommit
-commit-mark m e = and-yes (marked 67 79 m) _ e .0
+commit-mark m e = and-yes (marked commitMark m) _ e .0
 
 pub commit-length : (m : List ℕ) → isCommit m ≡ true → length m ≡ 80
 unfolding isCommit
-commit-length m e = eqb-true _ _ (and-yes (marked 67 79 m) _ e .1)
+commit-length m e = eqb-true _ _ (and-yes (marked commitMark m) _ e .1)
 
-pub broadcast-mark : (m : List ℕ) → isBroadcast m ≡ true → marked 66 82 m ≡ true
+pub broadcast-mark : (m : List ℕ) → isBroadcast m ≡ true → marked broadcastMark m ≡ true
 unfolding isBroadcast
-broadcast-mark m e = and-yes (marked 66 82 m) _ e .0
+broadcast-mark m e = and-yes (marked broadcastMark m) _ e .0
 
 pub broadcast-length : (m : List ℕ) → isBroadcast m ≡ true → length m ≡ 80
 unfolding isBroadcast
-broadcast-length m e = eqb-true _ _ (and-yes (marked 66 82 m) _ e .1)
+broadcast-length m e = eqb-true _ _ (and-yes (marked broadcastMark m) _ e .1)
 
-pub reply-mark : (m : List ℕ) → isReply m ≡ true → marked 82 69 m ≡ true
+pub reply-mark : (m : List ℕ) → isReply m ≡ true → marked replyMark m ≡ true
 unfolding isReply
-reply-mark m e = and-yes (marked 82 69 m) _ (and-yes _ _ (and-yes _ (eqb (length m) (3 + replyCount m * 41)) e .0) .0) .0
+reply-mark m e = and-yes (marked replyMark m) _ (and-yes _ _ (and-yes _ (eqb (length m) (3 + replyCount m * 41)) e .0) .0) .0
 
 pub reply-length : (m : List ℕ) → isReply m ≡ true → length m ≡ 3 + replyCount m * 41
 unfolding isReply
-reply-length m e = eqb-true _ _ (and-yes (marked 82 69 m && leb 3 (length m) && leb (replyCount m) 32) _ e .1)
+reply-length m e = eqb-true _ _ (and-yes (marked replyMark m && leb 3 (length m) && leb (replyCount m) 32) _ e .1)
 
 pub reply-count : (m : List ℕ) → isReply m ≡ true → replyCount m ≤ 32
 unfolding isReply
-reply-count m e = leb-true _ _ (and-yes (marked 82 69 m && leb 3 (length m)) _ (and-yes _ (eqb (length m) (3 + replyCount m * 41)) e .0) .1)
+reply-count m e = leb-true _ _ (and-yes (marked replyMark m && leb 3 (length m)) _ (and-yes _ (eqb (length m) (3 + replyCount m * 41)) e .0) .1)
 
 -- ---- lengths
 pub op-length : (e : Operation) → length (opBytes e) ≡ 8

@@ -1,6 +1,6 @@
 -- Limits of the messages, lengths in bytes, and at which byte each field stands. Document 01, "Marks and messages".
 use Prim.Native.Nat.{ℕ, _*_}
-use mathlib.Core.List.{List}
+use mathlib.Core.List.{List, [], _∷_}
 use lib.ListN.{take, drop}
 
 -- ---- limits
@@ -44,6 +44,19 @@ itemLength = 41
 -- ---- every message: "Each record begins with two ASCII letters." In `IN`, `CO` and `BR` operation and author come next
 abbrev pub markLength : ℕ
 markLength = 2
+
+-- the marks `IN`, `RE`, `CO` and `BR`
+abbrev pub invokeMark : List ℕ
+invokeMark = 73 ∷ 78 ∷ []
+
+abbrev pub replyMark : List ℕ
+replyMark = 82 ∷ 69 ∷ []
+
+abbrev pub commitMark : List ℕ
+commitMark = 67 ∷ 79 ∷ []
+
+abbrev pub broadcastMark : List ℕ
+broadcastMark = 66 ∷ 82 ∷ []
 
 abbrev pub authorOffset : ℕ
 authorOffset = 10

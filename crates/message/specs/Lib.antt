@@ -1,3 +1,4 @@
 pub mod Layout
 pub mod Message
+pub mod Content
 pub mod Readers

@@ -7,13 +7,13 @@ use lib.Dec.{leb, eqb}
 use Rattle.slices.specs.Bytes.{bigEndian, wordAt}
 use Rattle.operation.specs.declared.Operation.{Operation}
 use Rattle.operation.specs.Operation.{maxPending, opBytes, opAt}
-use Rattle.message.specs.Layout.{tagLength, digestLength, markLength, itemAuthor, itemTag, itemLength, invokeLength, countOffset, replyHead, authorOffset, seqOffset, digestOffset, statusOffset, tagOffset, commitLength}
+use Rattle.message.specs.Layout.{tagLength, digestLength, markLength, invokeMark, replyMark, commitMark, broadcastMark, itemAuthor, itemTag, itemLength, invokeLength, countOffset, replyHead, authorOffset, seqOffset, digestOffset, statusOffset, tagOffset, commitLength}
 use Rattle.message.specs.declared.Item.{Item}
 use Rattle.message.specs.declared.Commit.{Commit}
 
 -- "The IN tag is made … over IN, entry, author (11 bytes)."
 unfoldable pub invokeString : Operation → ℕ → List ℕ
-invokeString e author = 73 ∷ 78 ∷ opBytes e ++ (author ∷ [])
+invokeString e author = invokeMark ++ opBytes e ++ (author ∷ [])
 
 -- "entry, author, place, digest, status", 46 bytes
 abbrev pub commitBody : Operation → ℕ → ℕ → List ℕ → ℕ → List ℕ
@@ -21,7 +21,7 @@ commitBody e author seq digest status = opBytes e ++ (author ∷ bigEndian 4 seq
 
 -- "The CO tag is over CO, entry, author, place, digest, status (48 bytes)."
 unfoldable pub commitString : Operation → ℕ → ℕ → List ℕ → ℕ → List ℕ
-commitString e author seq digest status = 67 ∷ 79 ∷ commitBody e author seq digest status
+commitString e author seq digest status = commitMark ++ commitBody e author seq digest status
 
 -- "At place p it is the digest of 45 bytes: value at p − 1, entry, p, author."
 unfoldable pub chainString : List ℕ → Operation → ℕ → ℕ → List ℕ
@@ -41,7 +41,7 @@ invokeBytes i = invokeString (i .op) (i .author) ++ i .tag
 
 -- "`RE`: number of items n …, then n items …. 3 + 41 × n bytes."
 unfoldable pub replyBytes : List Item → List ℕ
-replyBytes is = 82 ∷ 69 ∷ length is ∷ itemsBytes is
+replyBytes is = replyMark ++ (length is ∷ itemsBytes is)
 
 -- "`CO` and `BR`: entry, author, place, digest (32), status, tag. 80 bytes.": the string under its tag, then the tag
 unfoldable pub commitBytes : Commit → List ℕ
@@ -53,15 +53,15 @@ commitFields k = commitBody (k .op) (k .author) (k .seq) (k .digest) (k .status)
 
 -- "A `BR` carries the `CO` tag unchanged."
 unfoldable pub broadcastBytes : Commit → List ℕ
-broadcastBytes k = 66 ∷ 82 ∷ commitFields k
+broadcastBytes k = broadcastMark ++ commitFields k
 
 -- ---- reading: mark and exact length first, then the fields, each any number
 -- "Each record begins with two ASCII letters."
-unfoldable pub marked : ℕ → ℕ → List ℕ → Bool
-marked a b m = leb markLength (length m) && eqb (getD m 0 0) a && eqb (getD m 1 0) b
+unfoldable pub marked : List ℕ → List ℕ → Bool
+marked mark m = leb markLength (length m) && eqb (getD m 0 0) (getD mark 0 0) && eqb (getD m 1 0) (getD mark 1 0)
 
 unfoldable pub isInvoke : List ℕ → Bool
-isInvoke m = marked 73 78 m && eqb (length m) invokeLength
+isInvoke m = marked invokeMark m && eqb (length m) invokeLength
 
 -- the number of items that a reply says it has
 abbrev pub replyCount : List ℕ → ℕ
@@ -69,13 +69,13 @@ replyCount m = getD m countOffset 0
 
 -- "n (one byte, 0 to 32) … 3 + 41 × n bytes"
 unfoldable pub isReply : List ℕ → Bool
-isReply m = marked 82 69 m && leb replyHead (length m) && leb (replyCount m) maxPending && eqb (length m) (replyHead + replyCount m * itemLength)
+isReply m = marked replyMark m && leb replyHead (length m) && leb (replyCount m) maxPending && eqb (length m) (replyHead + replyCount m * itemLength)
 
 unfoldable pub isCommit : List ℕ → Bool
-isCommit m = marked 67 79 m && eqb (length m) commitLength
+isCommit m = marked commitMark m && eqb (length m) commitLength
 
 unfoldable pub isBroadcast : List ℕ → Bool
-isBroadcast m = marked 66 82 m && eqb (length m) commitLength
+isBroadcast m = marked broadcastMark m && eqb (length m) commitLength
 
 -- the item at byte i
 unfoldable pub itemAt : List ℕ → ℕ → Item

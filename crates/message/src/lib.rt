@@ -6,11 +6,24 @@ ghost use lib.ListN.{length};
 ghost use Rattle.message.specs.Layout.{itemLength, replyHead, commitLength};
 ghost use Rattle.message.specs.Message.{marked, isInvoke, isReply, isCommit, isBroadcast, itemAt, replyItem, commitOf};
 ghost use Rattle.message.specs.Readers.{noItem, noCommit, readInvoke, readCommit};
+ghost use Rattle.message.specs.Content.{contentOk, commitOk};
+ghost use Rattle.operation.specs.Operation.{opOk};
 
 // Clients are 1 to `CLIENTS`, sequence numbers 1 to `MAX_SEQ`.
 pub const CLIENTS: u8 = 8;
 
 pub const MAX_SEQ: u32 = 1000000;
+
+// The marks: `IN`, `RE`, `CO` and `BR`.
+pub const MARK_LENGTH: usize = 2;
+
+pub const INVOKE_MARK: [u8; MARK_LENGTH] = [b'I', b'N'];
+
+pub const REPLY_MARK: [u8; MARK_LENGTH] = [b'R', b'E'];
+
+pub const COMMIT_MARK: [u8; MARK_LENGTH] = [b'C', b'O'];
+
+pub const BROADCAST_MARK: [u8; MARK_LENGTH] = [b'B', b'R'];
 
 // Lengths in bytes.
 pub const DIGEST_LENGTH: usize = 32;
@@ -20,8 +33,6 @@ pub const TAG_LENGTH: usize = 32;
 pub const KEY_LENGTH: usize = 32;
 
 pub const KEYS_LENGTH: usize = 256;
-
-pub const MARK_LENGTH: usize = 2;
 
 pub const ITEM_LENGTH: usize = 41;
 
@@ -89,12 +100,12 @@ pub struct ReadCommit {
     pub commit: Commit,
 }
 
-// Whether the bytes begin with the mark `a`, `b`.
-pub fn is_marked(a: u8, b: u8, m: &[u8]) -> bool
-    ensures { λ r. ⌜ r ≡ marked a b (now (m .entry)) ⌝ }
+// Whether the bytes begin with the mark.
+pub fn is_marked(mark: [u8; MARK_LENGTH], m: &[u8]) -> bool
+    ensures { λ r. ⌜ r ≡ marked mark (now (m .entry)) ⌝ }
 {
     if MARK_LENGTH <= m.len() {
-        (m[0] == a) & (m[1] == b)
+        (m[0] == mark[0]) & (m[1] == mark[1])
     } else {
         false
     }
@@ -103,13 +114,13 @@ pub fn is_marked(a: u8, b: u8, m: &[u8]) -> bool
 pub fn is_invoke(m: &[u8]) -> bool
     ensures { λ r. ⌜ r ≡ isInvoke (now (m .entry)) ⌝ }
 {
-    is_marked(73, 78, m) & (m.len() == INVOKE_LENGTH)
+    is_marked(INVOKE_MARK, m) & (m.len() == INVOKE_LENGTH)
 }
 
 pub fn is_reply(m: &[u8]) -> bool
     ensures { λ r. ⌜ r ≡ isReply (now (m .entry)) ⌝ }
 {
-    let marked = is_marked(82, 69, m);
+    let marked = is_marked(REPLY_MARK, m);
     if REPLY_HEAD <= m.len() {
         let n = m[COUNT_OFFSET] as usize;
         marked & (n <= operation::MAX_PENDING) & (m.len() == REPLY_HEAD + n * ITEM_LENGTH)
@@ -121,13 +132,13 @@ pub fn is_reply(m: &[u8]) -> bool
 pub fn is_commit(m: &[u8]) -> bool
     ensures { λ r. ⌜ r ≡ isCommit (now (m .entry)) ⌝ }
 {
-    is_marked(67, 79, m) & (m.len() == COMMIT_LENGTH)
+    is_marked(COMMIT_MARK, m) & (m.len() == COMMIT_LENGTH)
 }
 
 pub fn is_broadcast(m: &[u8]) -> bool
     ensures { λ r. ⌜ r ≡ isBroadcast (now (m .entry)) ⌝ }
 {
-    is_marked(66, 82, m) & (m.len() == COMMIT_LENGTH)
+    is_marked(BROADCAST_MARK, m) & (m.len() == COMMIT_LENGTH)
 }
 
 // The item at byte `i`.
@@ -163,6 +174,21 @@ pub fn commit_of(m: &[u8]) -> Commit
         status: m[STATUS_OFFSET],
         tag: slices::part(m, TAG_OFFSET),
     }
+}
+
+// Whether operation and author are allowed.
+pub fn content_ok(e: Operation, author: u8) -> bool
+    ensures { λ r. ⌜ r ≡ contentOk opOk e author ⌝ }
+{
+    operation::op_ok(e) & (1 <= author) & (author <= CLIENTS)
+}
+
+// Whether a commit's operation, author and status are allowed.
+pub fn commit_ok(k: Commit) -> bool
+    ensures { λ r. ⌜ r ≡ commitOk k ⌝ }
+{
+    let e = k.op;
+    content_ok(e, k.author) & (k.status <= 1)
 }
 
 // No item: every field zero.

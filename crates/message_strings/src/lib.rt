@@ -1,23 +1,36 @@
 // The strings under digest and tag. Definitions: specs/Message.antt of message.
 ghost use mathlib.Core.Path.{_≡_};
 ghost use mathlib.Core.List.{[], _∷_, _++_};
+ghost use lib.ListN.{getD};
 ghost use Rattle.operation.specs.Operation.{opBytes};
 ghost use Rattle.message.specs.Message.{invokeString, commitString, chainString};
 use operation::Operation;
 
 // The 11 bytes of mark, operation and author.
-fn head(a: u8, b: u8, e: Operation, author: u8) -> [u8; message::INVOKE_STRING]
-    ensures { λ r. ⌜ r ≡ a ∷ b ∷ opBytes e ++ (author ∷ []) ⌝ }
+fn head(mark: [u8; message::MARK_LENGTH], e: Operation, author: u8) -> [u8; message::INVOKE_STRING]
+    ensures { λ r. ⌜ r ≡ getD mark 0 0 ∷ getD mark 1 0 ∷ opBytes e ++ (author ∷ []) ⌝ }
 {
     let t = operation::op_bytes(e);
-    [a, b, t[0], t[1], t[2], t[3], t[4], t[5], t[6], t[7], author]
+    [
+        mark[0],
+        mark[1],
+        t[0],
+        t[1],
+        t[2],
+        t[3],
+        t[4],
+        t[5],
+        t[6],
+        t[7],
+        author,
+    ]
 }
 
 // The string under an invoke's tag.
 pub fn invoke_string(e: Operation, author: u8) -> [u8; message::INVOKE_STRING]
     ensures { λ r. ⌜ r ≡ invokeString e author ⌝ }
 {
-    head(73, 78, e, author)
+    head(message::INVOKE_MARK, e, author)
 }
 
 // The string under a commit's tag.
@@ -31,7 +44,7 @@ pub fn commit_string(
     ensures { λ r. ⌜ r ≡ commitString e author seq digest status ⌝ }
 {
     let mut t = [0u8; message::TAG_OFFSET];
-    let h = head(67, 79, e, author);
+    let h = head(message::COMMIT_MARK, e, author);
     let w = slices::word_bytes(seq);
     slices::copy_to(&mut t, 0, &h);
     slices::copy_to(&mut t, message::SEQ_OFFSET, &w);

@@ -10,6 +10,7 @@ use Rattle.slices.specs.Bytes.{put, bigEndian}
 use Rattle.operation.specs.Operation.{opBytes}
 use Rattle.message.specs.declared.Item.{Item}
 use Rattle.message.specs.declared.Commit.{Commit}
+use Rattle.message.specs.Layout.{invokeMark}
 use Rattle.message.specs.Message.{commitString, itemBytes, invokeBytes, commitBytes}
 use Rattle.message.proofs.Laws.{two-parts, three-parts, invoke-item, commit-string-length}
 
@@ -28,5 +29,5 @@ commit-parts z k hd ht =
     (omega (arith, commit-string-length (k .op) (k .author) (k .seq) (k .digest) (k .status) hd)) (omega arith)
 
 pub invoke-parts : (z : List ℕ) (i : Item) → 2 ≤ length z
-    → take 2 (put z 0 (73 ∷ 78 ∷ [])) ++ itemBytes i ++ drop (2 + 41) (put z 0 (73 ∷ 78 ∷ [])) ≡ invokeBytes i ++ drop 43 z
+    → take 2 (put z 0 invokeMark) ++ itemBytes i ++ drop (2 + 41) (put z 0 invokeMark) ≡ invokeBytes i ++ drop 43 z
 invoke-parts z i h = rw (invoke-item i, drop-drop 41 2 z)

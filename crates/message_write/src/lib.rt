@@ -25,7 +25,7 @@ pub fn write_invoke(out: &mut [u8], i: Item)
     requires { ⌜ invokeLength ≤ length (now out) ⌝ }
     ensures { λ _. ⌜ now (out .exit) ≡ invokeBytes i ++ drop invokeLength (now (out .entry)) ⌝ }
 {
-    slices::copy_to(out, 0, &[73, 78]);
+    slices::copy_to(out, 0, &message::INVOKE_MARK);
     write_item(out, message::MARK_LENGTH, i);
 }
 

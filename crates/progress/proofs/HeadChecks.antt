@@ -14,6 +14,7 @@ use Rattle.message.specs.Message.{isInvoke, itemAt, commitOf}
 use Rattle.replica.specs.declared.Replica.{Replica}
 use Rattle.checks.proofs.Laws.{every-each}
 use Rattle.server.specs.declared.Server.{Server}
+use Rattle.message.specs.Content.{commitOk}
 use Rattle.server.specs.Server.{itemOk, wholeInvoke, wholeCommit, authorOf, lineChecks, lastCount, placingChecks, slotItem, slotOf, placeOk, commitChecks, serverNo}
 use Rattle.server.specs.Server as Sv
 use Rattle.progress.specs.HonestRuns.{Line}
@@ -93,7 +94,7 @@ module _ (g : Ghost) (s : Server) (range : Sv.inRange s ≡ true) (n b : ℕ) (l
     sent = sent-head g s n b (r .current) (r .confirmed) m u d e (C .lines)
 
     commit-fine : wholeCommit m ≡ true
-    unfolding wholeCommit
+    unfolding wholeCommit commitOk
     commit-fine =
         let a = sent .0 in
         rw (a .form)

@@ -17,6 +17,7 @@ use Rattle.round_trips.proofs.Operations.{word-back, word-write, get-sk
 use Rattle.slices.proofs.Laws.{and-yes}
 use Rattle.message.specs.declared.Item.{Item}
 use Rattle.message.specs.declared.Commit.{Commit}
+use Rattle.message.specs.Layout.{invokeMark, replyMark}
 use Rattle.message.specs.Readers.{ItemFits, CommitFits, ItemsFit, none, more, noItem}
 use Rattle.message.specs.Message.{invokeString, commitString, chainString, itemBytes, itemsBytes, commitFields, invokeBytes, replyBytes, commitBytes, broadcastBytes, marked, isInvoke, isReply, isCommit, isBroadcast, itemAt, commitOf, replyCount, replyItem, replyItems}
 use Rattle.message.proofs.Laws.{items-join, items-more, items-length, invoke-bytes-length, commit-bytes-length, broadcast-bytes-length, reply-bytes-length, commit-tagged, invoke-item, commit-marked, fields-are, invoke-length, commit-length, broadcast-length, reply-length, invoke-mark, commit-mark, broadcast-mark, reply-mark}
@@ -51,34 +52,34 @@ parts-read a b k f =
 fields-read : (a b : ℕ) (k : Commit) → CommitFits k → commitOf (a ∷ b ∷ commitFields k) ≡ k
 fields-read a b k f = ap (λ (s : List ℕ). commitOf (a ∷ b ∷ s)) (fields-are k) ∙ parts-read a b k f
 
-mark-yes : (a b : ℕ) (s : List ℕ) → marked a b (a ∷ b ∷ s) ≡ true
+mark-yes : (a b : ℕ) (s : List ℕ) → marked (a ∷ b ∷ []) (a ∷ b ∷ s) ≡ true
 unfolding marked
 mark-yes a b s = rw (le-leb 2 (suc (suc (length s))) (omega arith), eq-eqb a a refl, eq-eqb b b refl)
 
-is-yes : (a b n : ℕ) (s : List ℕ) → length (a ∷ b ∷ s) ≡ n → (marked a b (a ∷ b ∷ s) && eqb (length (a ∷ b ∷ s)) n) ≡ true
+is-yes : (a b n : ℕ) (s : List ℕ) → length (a ∷ b ∷ s) ≡ n → (marked (a ∷ b ∷ []) (a ∷ b ∷ s) && eqb (length (a ∷ b ∷ s)) n) ≡ true
 is-yes a b n s h = rw (mark-yes a b s, eq-eqb _ _ h)
 
 pub invoke-yes : (i : Item) → ItemFits i → isInvoke (invokeBytes i) ≡ true
 unfolding isInvoke
-invoke-yes i f = rw (invoke-item i) (is-yes 73 78 43 (itemBytes i) (ap length (sym (invoke-item i)) ∙ invoke-bytes-length i (f .tag)))
+invoke-yes i f = rw (invoke-item i) (is-yes _ _ 43 (itemBytes i) (ap length (sym (invoke-item i)) ∙ invoke-bytes-length i (f .tag)))
 
 pub invoke-read : (i : Item) → ItemFits i → itemAt (invokeBytes i) 2 ≡ i
-invoke-read i f = ap (λ (s : List ℕ). itemAt s 2) (invoke-item i) ∙ ap (λ (s : List ℕ). itemAt (73 ∷ 78 ∷ s) 2) (sym (append-nil (itemBytes i))) ∙ item-read (73 ∷ 78 ∷ []) [] i f
+invoke-read i f = ap (λ (s : List ℕ). itemAt s 2) (invoke-item i) ∙ ap (λ (s : List ℕ). itemAt (invokeMark ++ s) 2) (sym (append-nil (itemBytes i))) ∙ item-read invokeMark [] i f
 
 pub commit-yes : (k : Commit) → CommitFits k → isCommit (commitBytes k) ≡ true
 unfolding isCommit
-commit-yes k f = rw (commit-marked k) (is-yes 67 79 80 (commitFields k) (ap length (sym (commit-marked k)) ∙ commit-bytes-length k (f .digest) (f .tag)))
+commit-yes k f = rw (commit-marked k) (is-yes _ _ 80 (commitFields k) (ap length (sym (commit-marked k)) ∙ commit-bytes-length k (f .digest) (f .tag)))
 
 pub commit-read : (k : Commit) → CommitFits k → commitOf (commitBytes k) ≡ k
-commit-read k f = ap commitOf (commit-marked k) ∙ fields-read 67 79 k f
+commit-read k f = ap commitOf (commit-marked k) ∙ fields-read _ _ k f
 
 pub broadcast-yes : (k : Commit) → CommitFits k → isBroadcast (broadcastBytes k) ≡ true
 unfolding isBroadcast broadcastBytes
-broadcast-yes k f = is-yes 66 82 80 (commitFields k) (broadcast-bytes-length k (f .digest) (f .tag))
+broadcast-yes k f = is-yes _ _ 80 (commitFields k) (broadcast-bytes-length k (f .digest) (f .tag))
 
 pub broadcast-read : (k : Commit) → CommitFits k → commitOf (broadcastBytes k) ≡ k
 unfolding broadcastBytes
-broadcast-read k f = fields-read 66 82 k f
+broadcast-read k f = fields-read _ _ k f
 
 -- ---- replies
 fits-take : {is : List Item} (k : ℕ) → ItemsFit is → ItemsFit (take k is)
@@ -93,7 +94,7 @@ fits-at d (suc k) (more f fs) h = fits-at d k fs (omega arith)
 
 pub reply-yes : (is : List Item) → length is ≤ 32 → ItemsFit is → isReply (replyBytes is) ≡ true
 unfolding isReply replyBytes
-reply-yes is h fs = rw (mark-yes 82 69 (length is ∷ itemsBytes is), le-leb 3 (suc (suc (suc (length (itemsBytes is))))) (omega arith), le-leb (length is) 32 h, eq-eqb _ _ (reply-bytes-length fs))
+reply-yes is h fs = rw (mark-yes _ _ (length is ∷ itemsBytes is), le-leb 3 (suc (suc (suc (length (itemsBytes is))))) (omega arith), le-leb (length is) 32 h, eq-eqb _ _ (reply-bytes-length fs))
 
 -- item k of a reply
 module _ (is : List Item) (fs : ItemsFit is) (d : Item) where
@@ -103,11 +104,11 @@ module _ (is : List Item) (fs : ItemsFit is) (d : Item) where
       let x : Item = getD is k d in
       let p : List ℕ = itemsBytes (take k is) in
       let q : List ℕ = itemsBytes (drop (suc k) is) in
-      let xs : List ℕ = 82 ∷ 69 ∷ length is ∷ p in
+      let xs : List ℕ = replyMark ++ (length is ∷ p) in
       let l : length p ≡ k * 41 = items-length (fits-take k fs) ∙ ap (λ (n : ℕ). n * 41) (length-take-le k is (omega arith)) in
       let n : 3 + k * 41 ≡ length xs = omega arith in
       let e : itemsBytes is ≡ p ++ (itemBytes x ++ q) = ap itemsBytes (split-at is k d h) ∙ items-join (take k is) (x ∷ drop (suc k) is) in
-      ap (λ (s : List ℕ). itemAt (82 ∷ 69 ∷ length is ∷ s) (3 + k * 41)) (e ∙ sym (append-assoc p (itemBytes x) q))
+      ap (λ (s : List ℕ). itemAt (replyMark ++ (length is ∷ s)) (3 + k * 41)) (e ∙ sym (append-assoc p (itemBytes x) q))
       ∙ ap (itemAt (xs ++ itemBytes x ++ q)) n
       ∙ item-read xs q x (fits-at d k fs h)
 
@@ -146,7 +147,7 @@ parts-write m b h =
 fields-write : (m : List ℕ) → ((j : ℕ) → getD m j 0 < 256) → length m ≡ 80 → commitFields (commitOf m) ≡ take 78 (drop 2 m)
 fields-write m b h = fields-are (commitOf m) ∙ parts-write m b h
 
-marked-split : (a b : ℕ) (m : List ℕ) → marked a b m ≡ true → m ≡ a ∷ b ∷ drop 2 m
+marked-split : (a b : ℕ) (m : List ℕ) → marked (a ∷ b ∷ []) m ≡ true → m ≡ a ∷ b ∷ drop 2 m
 unfolding marked
 marked-split a b [] e = absurd (let z : _≡_ {A = ℕ} 0 1 = cc e in omega arith)
 marked-split a b (x ∷ []) e = absurd (let z : _≡_ {A = ℕ} 0 1 = cc e in omega arith)
@@ -161,18 +162,18 @@ whole m n h = take-all n (drop 2 m) (simp length-drop (omega arith))
 pub invoke-write : (m : List ℕ) → ((j : ℕ) → getD m j 0 < 256) → isInvoke m ≡ true → invokeBytes (itemAt m 2) ≡ m
 invoke-write m b e =
     let h : length m ≡ 43 = invoke-length m e in
-    rw (invoke-item (itemAt m 2), item-write m 2 b (omega arith), whole m 41 h) (sym (marked-split 73 78 m (invoke-mark m e)))
+    rw (invoke-item (itemAt m 2), item-write m 2 b (omega arith), whole m 41 h) (sym (marked-split _ _ m (invoke-mark m e)))
 
 pub commit-write : (m : List ℕ) → ((j : ℕ) → getD m j 0 < 256) → isCommit m ≡ true → commitBytes (commitOf m) ≡ m
 commit-write m b e =
     let h : length m ≡ 80 = commit-length m e in
-    rw (commit-marked (commitOf m), fields-write m b h, whole m 78 h) (sym (marked-split 67 79 m (commit-mark m e)))
+    rw (commit-marked (commitOf m), fields-write m b h, whole m 78 h) (sym (marked-split _ _ m (commit-mark m e)))
 
 pub broadcast-write : (m : List ℕ) → ((j : ℕ) → getD m j 0 < 256) → isBroadcast m ≡ true → broadcastBytes (commitOf m) ≡ m
 unfolding broadcastBytes
 broadcast-write m b e =
     let h : length m ≡ 80 = broadcast-length m e in
-    rw (fields-write m b h, whole m 78 h) (sym (marked-split 66 82 m (broadcast-mark m e)))
+    rw (fields-write m b h, whole m 78 h) (sym (marked-split _ _ m (broadcast-mark m e)))
 
 pub items-count : (m : List ℕ) (n : ℕ) → length (replyItems m n) ≡ n
 unfolding replyItems
@@ -192,7 +193,7 @@ reply-write m b e =
     let h : length m ≡ 3 + replyCount m * 41 = reply-length m e in
     let w : take (replyCount m * 41) (drop 3 m) ≡ drop 3 m = take-all (replyCount m * 41) (drop 3 m) (simp length-drop (omega arith)) in
     let t : replyCount m ∷ drop 3 m ≡ drop 2 m = sym (drop-cons m 2 0 (omega arith)) in
-    rw (items-count m (replyCount m), items-write m (replyCount m) b (omega arith), w, t) (sym (marked-split 82 69 m (reply-mark m e)))
+    rw (items-count m (replyCount m), items-write m (replyCount m) b (omega arith), w, t) (sym (marked-split _ _ m (reply-mark m e)))
 
 -- ---- what is read fits
 pub item-fits : (m : List ℕ) (i : ℕ) → ((j : ℕ) → getD m j 0 < 256) → i + 41 ≤ length m → ItemFits (itemAt m i)
@@ -213,7 +214,7 @@ commit-fits m b h =
 pub invoke-string-fields : (e f : Operation) (a b : ℕ) → e .count < 2 ^ 32 → f .count < 2 ^ 32 → invokeString e a ≡ invokeString f b → (e ≡ f) × (a ≡ b)
 unfolding invokeString opBytes bigEndian
 invoke-string-fields e f a b he hf q = (
-  sym (op-read (73 ∷ 78 ∷ []) (a ∷ []) e he) ∙ ap (λ (s : List ℕ). opAt s 2) q ∙ op-read (73 ∷ 78 ∷ []) (b ∷ []) f hf,
+  sym (op-read invokeMark (a ∷ []) e he) ∙ ap (λ (s : List ℕ). opAt s 2) q ∙ op-read invokeMark (b ∷ []) f hf,
   ap (λ (s : List ℕ). getD s 10 0) q,
 )
 

@@ -8,6 +8,7 @@ use native.Mathlib.Omega.{arith}
 use native.Mathlib.Numerals.{add-one}
 use Rattle.slices.specs.Bytes.{put, bigEndian}
 use Rattle.operation.specs.Operation.{opBytes, opAt}
+use Rattle.message.specs.Layout.{broadcastMark}
 use Rattle.message.specs.Message.{broadcastBytes, itemAt}
 use Rattle.message.proofs.Laws.{three-parts, fields-are, broadcast-bytes-length}
 use Rattle.round_trips.proofs.Operations.{op-write}
@@ -16,7 +17,7 @@ use Rattle.server.specs.Server.{slotItem, slotStatus, slotDigest, slotTag, sent
 
 -- ---- a broadcast in two parts: up to the sequence number, and from the digest on
 abbrev front : List ℕ → ℕ → ℕ → List ℕ
-front m i seq = 66 ∷ 82 ∷ opBytes (opAt m i) ++ (getD m (i + 8) 0 ∷ bigEndian 4 seq)
+front m i seq = broadcastMark ++ opBytes (opAt m i) ++ (getD m (i + 8) 0 ∷ bigEndian 4 seq)
 
 abbrev rest : List ℕ → ℕ → List ℕ → List ℕ
 rest digest status tag = digest ++ (status ∷ tag)
@@ -26,13 +27,13 @@ op-author : (m : List ℕ) (i : ℕ) → ((j : ℕ) → getD m j 0 < 256) → i 
 op-author m i b h = rw (op-write m i b (omega arith), ← getD-drop i m 8 0) (take-suc (drop i m) 8 0 (simp length-drop (omega arith)))
 
 pub front-written : {w y₁ y₂ y₃ : List ℕ} (z m : List ℕ) (at i seq : ℕ) → ((j : ℕ) → getD m j 0 < 256) → at + 15 ≤ length z → i + 9 ≤ length m
-    → w ≡ bigEndian 4 seq → y₁ ≡ put z at (66 ∷ 82 ∷ []) → y₂ ≡ put y₁ (at + 2) (take (i + 9 - i) (drop i m)) → y₃ ≡ put y₂ (at + 11) w
+    → w ≡ bigEndian 4 seq → y₁ ≡ put z at broadcastMark → y₂ ≡ put y₁ (at + 2) (take (i + 9 - i) (drop i m)) → y₃ ≡ put y₂ (at + 11) w
     → y₃ ≡ take at z ++ front m i seq ++ drop (at + 15) z
 unfolding opBytes bigEndian
 front-written z m at i seq b l h e e₁ e₂ e₃ =
     let n : i + 9 - i ≡ 9 = omega arith in
     rw (e₃, e, e₂, e₁, n, op-author m i b h)
-    (three-parts z (66 ∷ 82 ∷ []) (opBytes (opAt m i) ++ (getD m (i + 8) 0 ∷ [])) at (at + 2) (at + 11) (omega arith) refl (omega arith) (bigEndian 4 seq) (at + 15) (omega arith)
+    (three-parts z broadcastMark (opBytes (opAt m i) ++ (getD m (i + 8) 0 ∷ [])) at (at + 2) (at + 11) (omega arith) refl (omega arith) (bigEndian 4 seq) (at + 15) (omega arith)
     ∙ simp append-assoc)
 
 part-length : (s : List ℕ) (d : ℕ) → d + 32 ≤ length s → length (take 32 (drop d s)) ≡ 32

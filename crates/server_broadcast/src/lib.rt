@@ -5,7 +5,7 @@ ghost use Prim.Native.Nat.{_+_, _*_, _<_, _≤_};
 ghost use lib.ListN.{length, getD, take, drop};
 ghost use Rattle.slices.specs.Bytes.{bigEndian};
 ghost use Rattle.operation.specs.Operation.{maxPending, opBytes, opAt};
-ghost use Rattle.message.specs.Layout.{maxSeq, digestLength, itemAuthor, itemTag, digestOffset, commitLength};
+ghost use Rattle.message.specs.Layout.{maxSeq, digestLength, broadcastMark, itemAuthor, itemTag, digestOffset, commitLength};
 ghost use Rattle.message.specs.Message.{broadcastBytes};
 ghost use Rattle.server.specs.Server.{slotCommit, sentStatus, broadcasts};
 ghost use Rattle.server.specs.declared.Server.{Server};
@@ -23,12 +23,12 @@ fn write_front(out: &mut [u8], at: usize, items: &[u8], i: usize, seq: u32)
     requires { ⌜ (at + digestOffset ≤ length (now out)) × (i + itemTag ≤ length (now items)) ⌝ }
     ensures { λ _. ⌜ now (out .exit)
         ≡ take at (now (out .entry))
-        ++ (66 ∷ 82 ∷ opBytes (opAt (now (items .entry)) i) ++ (getD (now (items .entry)) (i + itemAuthor) 0 ∷ bigEndian 4 seq))
+        ++ (broadcastMark ++ opBytes (opAt (now (items .entry)) i) ++ (getD (now (items .entry)) (i + itemAuthor) 0 ∷ bigEndian 4 seq))
         ++ drop (at + digestOffset) (now (out .entry)) ⌝ }
 {
     let j = i + message::ITEM_TAG;
     let w = slices::word_bytes(seq);
-    slices::copy_to(out, at, &[66, 82]);
+    slices::copy_to(out, at, &message::BROADCAST_MARK);
     slices::copy_to(out, at + message::MARK_LENGTH, &items[i..j]);
     slices::copy_to(out, at + message::SEQ_OFFSET, &w);
 }

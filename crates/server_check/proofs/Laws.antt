@@ -12,6 +12,8 @@ use Rattle.checks.proofs.Laws.{Among, and-yes, all-yes, first-stays, first-zero
 use Rattle.operation.specs.Operation.{opOk}
 use Rattle.message.specs.declared.Item.{Item}
 use Rattle.message.specs.declared.Commit.{Commit}
+use Rattle.message.specs.Layout.{commitMark}
+use Rattle.message.specs.Content.{commitOk}
 use Rattle.message.specs.Message.{marked, isInvoke, isCommit, itemAt, commitOf}
 use Rattle.message.proofs.Laws.{invoke-length, commit-length}
 use Rattle.server.specs.declared.Server.{Server}
@@ -40,7 +42,7 @@ and-no a b f = rw f
 -- an invoke is no commit
 not-commit : (m : List ℕ) → isInvoke m ≡ true → isCommit m ≡ false
 unfolding isCommit
-not-commit m e = rw (invoke-length m e) (and-false (marked 67 79 m))
+not-commit m e = rw (invoke-length m e) (and-false (marked commitMark m))
 
 pub invoke-item : (m : List ℕ) → isInvoke m ≡ true → (wholeInvoke m || wholeCommit m) ≡ true → itemOk (itemAt m 2) ≡ true
 unfolding wholeInvoke wholeCommit
@@ -51,7 +53,7 @@ pub commit-long : (m : List ℕ) → isInvoke m ≡ false → (wholeInvoke m || 
 unfolding wholeInvoke wholeCommit
 commit-long m i e =
     let k = or-right (wholeInvoke m) (wholeCommit m) (and-no (isInvoke m) _ i) e in
-    commit-length m (and-yes (isCommit m) (every true (opOk (commitOf m .op) ∷ leb 1 (commitOf m .author) ∷ leb (commitOf m .author) 8 ∷ leb (commitOf m .status) 1 ∷ [])) k .0)
+    commit-length m (and-yes (isCommit m) (commitOk (commitOf m)) k .0)
 
 -- ---- what the checks of an invoke imply
 pub record Placing (s : Server) (i : Item) (room : ℕ) : Type 0 where

@@ -9,7 +9,8 @@ pub fn whole_invoke(m: &[u8]) -> bool
     let r = message::read_invoke(m);
     let ok = r.ok;
     let i = r.item;
-    ok & server::item_ok(i)
+    let e = i.op;
+    ok & message::content_ok(e, i.author)
 }
 
 // Whether the bytes are a commit whose operation, author and status are allowed.
@@ -19,6 +20,5 @@ pub fn whole_commit(m: &[u8]) -> bool
     let r = message::read_commit(m);
     let ok = r.ok;
     let k = r.commit;
-    let e = k.op;
-    ok & (operation::op_ok(e) & (1 <= k.author) & (k.author <= message::CLIENTS) & (k.status <= 1))
+    ok & message::commit_ok(k)
 }

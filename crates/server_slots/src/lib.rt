@@ -26,7 +26,7 @@ fn item_ok_at(items: &[u8], at: usize) -> bool
 {
     let e = operation::read_op(items, at);
     let author = items[at + message::ITEM_AUTHOR];
-    operation::op_ok(e) & (1 <= author) & (author <= message::CLIENTS)
+    message::content_ok(e, author)
 }
 
 // Whether slot `k` of a server with these arrays is in range: its item is allowed, and it has a commit or neither digest nor tag.

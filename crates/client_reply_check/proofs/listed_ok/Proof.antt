@@ -9,15 +9,15 @@ add-seq c = search needs
 add-seq-2 : tie.Need-add-seq-2
 add-seq-2 c = search needs
 
-op-ok-requires : tie.Need-op-ok-requires
-op-ok-requires c κs = search needs
+content-ok-requires : tie.Need-content-ok-requires
+content-ok-requires c κs = search needs
 
 cast-result : tie.Need-cast-result
 cast-result c = search needs
 
 returns : tie.Need-returns
 unfolding listedOk
-returns c = rw (c .before .before .op-ok .ensures)
+returns c = rw (c .content-ok .ensures)
 
 pub listed-ok-spec : {M : Type 1} → statement M
-listed-ok-spec = tie.close (tie.spec add-seq add-seq-2 op-ok-requires cast-result returns)
+listed-ok-spec = tie.close (tie.spec add-seq add-seq-2 content-ok-requires cast-result returns)

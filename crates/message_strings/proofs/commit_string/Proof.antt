@@ -51,7 +51,7 @@ unfolding commitString
 returns c =
     let a = c .before .before .before .before .before .before .before .before .before .before .before .before .before .before .before .before .before .before .args in
     rw (c .before .copy-to4 .ensures, c .before .before .before .before .before .copy-to3 .ensures, c .before .before .before .before .before .before .before .before .before .copy-to2 .ensures, c .before .before .before .before .before .before .before .before .before .before .before .before .before .copy-to .ensures, c .before .before .before .before .before .before .before .before .before .before .before .before .before .before .before .before .before .head .ensures, c .before .before .before .before .before .before .before .before .before .before .before .before .before .before .before .before .word-bytes .ensures)
-    (front-parts 67 79 (a .e) (a .author) (a .seq) (a .t4) (a .status) (search needs))
+    (front-parts _ _ (a .e) (a .author) (a .seq) (a .t4) (a .status) (search needs))
 
 pub commit-string-spec : {M : Type 1} → statement M
 commit-string-spec =

@@ -31,6 +31,12 @@ array-read-t27 c = search needs
 array-read-t30 : tie.Need-array-read-t30
 array-read-t30 c = search needs
 
+array-read-t33 : tie.Need-array-read-t33
+array-read-t33 c = search needs
+
+array-read-t36 : tie.Need-array-read-t36
+array-read-t36 c = search needs
+
 returns : tie.Need-returns
 unfolding opBytes bigEndian
 returns c = rw (c .op-bytes .ensures)
@@ -48,4 +54,6 @@ head-spec =
     array-read-t24
     array-read-t27
     array-read-t30
+    array-read-t33
+    array-read-t36
     returns)

@@ -9,15 +9,15 @@ use Rattle.server_form.proofs.whole_invoke.Tie as tie
 read-invoke-requires : tie.Need-read-invoke-requires
 read-invoke-requires c κs = search needs
 
-item-ok-requires : tie.Need-item-ok-requires
-item-ok-requires c κs = search needs
+content-ok-requires : tie.Need-content-ok-requires
+content-ok-requires c κs = search needs
 
 returns : tie.Need-returns
-unfolding wholeInvoke readInvoke
+unfolding wholeInvoke itemOk readInvoke
 returns c =
-    let r = c .before .before in
+    let r = c .before .before .before in
     let m = r .before .before .args .m .now in
-    rw (c .item-ok .ensures, r .read-invoke .ensures) (read-ok itemOk (isInvoke m) (itemAt m 2) noItem)
+    rw (c .content-ok .ensures, r .read-invoke .ensures) (read-ok itemOk (isInvoke m) (itemAt m 2) noItem)
 
 pub whole-invoke-spec : {M : Type 1} → statement M
-whole-invoke-spec = tie.close (tie.spec read-invoke-requires item-ok-requires returns)
+whole-invoke-spec = tie.close (tie.spec read-invoke-requires content-ok-requires returns)

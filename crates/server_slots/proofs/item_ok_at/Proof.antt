@@ -13,12 +13,12 @@ add-author c = search needs
 shared-slice-read-author : tie.Need-shared-slice-read-author
 shared-slice-read-author c = search needs
 
-op-ok-requires : tie.Need-op-ok-requires
-op-ok-requires c κs = search needs
+content-ok-requires : tie.Need-content-ok-requires
+content-ok-requires c κs = search needs
 
 returns : tie.Need-returns
 unfolding itemOk itemAt
-returns c = rw (c .op-ok .ensures, c .before .before .read-op .ensures)
+returns c = rw (c .content-ok .ensures, c .before .before .read-op .ensures)
 
 pub item-ok-at-spec : {M : Type 1} → statement M
-item-ok-at-spec = tie.close (tie.spec read-op-requires add-author shared-slice-read-author op-ok-requires returns)
+item-ok-at-spec = tie.close (tie.spec read-op-requires add-author shared-slice-read-author content-ok-requires returns)
