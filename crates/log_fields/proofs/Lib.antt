@@ -1,3 +1,2 @@
-pub mod Lines
-pub mod Laws
+pub mod Places
 pub mod Walk

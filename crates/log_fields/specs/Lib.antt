@@ -1,3 +1,1 @@
-pub mod Lines
-pub mod Quotes
-pub mod Names
+pub mod Places

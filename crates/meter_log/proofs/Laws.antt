@@ -1,86 +1,37 @@
 -- How the parts of the calls join. Assumes nothing.
-use Prim.Native.Nat.{ℕ, _+_, _-_, _<_, _≤_}
-use mathlib.Core.Path.{_≡_, refl, sym, ap, _∙_}
-use mathlib.Core.List.{List, [], _∷_}
+use Prim.Native.Nat.{ℕ, _+_, _-_}
+use mathlib.Core.Path.{_≡_, sym, _∙_}
+use mathlib.Core.List.{List, []}
 use mathlib.Core.Bool.{true, false, cond, not, _&&_, true≢false}
 use native.Mathlib.Omega.{arith}
-use lib.ListN.{length, getD, take, drop, length-drop, List·getD-eq-default}
-use lib.Seq.{take-all}
-use lib.Dec.{eqb, leb, ltb}
-use borrow.Author.Tests.{eq-eqb, ne-eqb, eqb-true, eqb-false, leb-true, le-leb, lt-leb, ltb-true, ltb-false, lt-ltb, le-ltb}
+use lib.ListN.{length, take, drop, List·getD-eq-default}
+use lib.Dec.{eqb, ltb}
+use borrow.Author.Tests.{eqb-true, eqb-false, ltb-true, ltb-false, lt-ltb, le-ltb}
 use Rattle.slices.proofs.Laws.{and-yes}
-use Rattle.text.specs.Text.{numberOf}
 use Rattle.text.proofs.Laws.{either}
-use Rattle.log_fields.specs.declared.FieldEnd.{FieldEnd}
-use Rattle.log_fields.specs.Quotes.{start, fields, sound, fieldCount, EndsAt}
-use Rattle.log_fields.proofs.Walk.{split-some, Counted, counted-none, counted-not, counted-unsound, counted-sound, counted-last, counted-next, counted-here}
-use Rattle.meter_log.specs.declared.Columns.{Columns}
+use Rattle.operation.specs.declared.Operation.{Operation}
+use Rattle.log_quotes.specs.declared.FieldEnd.{FieldEnd}
+use Rattle.log_quotes.specs.Quotes.{start, fields, sound, fieldCount, EndsAt}
+use Rattle.log_number.specs.Number.{number, temperature}
+use Rattle.log_number.proofs.Laws.{number-empty, temp-empty}
+use Rattle.log_entry.specs.Entry.{inRanges, reported}
+use Rattle.log_columns.specs.declared.Columns.{Columns}
+use Rattle.log_columns.specs.Columns.{headerOk, columnsOf}
+use Rattle.log_columns.proofs.Laws.{count-sound, count-fields}
+use Rattle.log_fields.proofs.Walk.{Counted, counted-none, counted-not, counted-unsound, counted-sound, counted-last, counted-next, counted-here}
 use Rattle.meter_log.specs.declared.Values.{Values}
 use Rattle.meter_log.specs.declared.Header.the-variants as H
 use Rattle.meter_log.specs.declared.Refusal.the-variants as N
 use Rattle.meter_log.specs.declared.Reading.the-variants as R
-use Rattle.meter_log.specs.Reading.{headerOk, columnsOf, headerOf, number, warm, cold, temperature, readingOf, lineOk, under, readColumns, Found}
+use Rattle.meter_log.specs.Reading.{headerOf, readingOf, lineOk, under, readColumns, Found}
 
--- ---- the count of the fields tells whether a line is sound
-module _ (l : List ℕ) (n : ℕ) (e : n ≡ fieldCount l) where
-  pub count-sound : not (eqb n 0) ≡ sound l
-  unfolding fieldCount
-  count-sound =
-      either (sound l)
-      (λ t. let g : n ≡ length (fields l) = rw t at e in rw (t, ne-eqb n 0 (λ z. omega (arith, z, g, split-some start l))))
-      (λ t. let g : n ≡ 0 = rw t at e in rw (t, eq-eqb n 0 g))
-
-  pub count-fields : sound l ≡ true → n ≡ length (fields l)
-  unfolding fieldCount
-  count-fields t = rw t at e
-
-  pub count-ok : (c : Columns) → (not (eqb n 0) && eqb n (c .count)) ≡ lineOk c l
-  unfolding lineOk
-  count-ok c =
-      either (sound l)
-      (λ t. rw (count-sound, t, ← count-fields t))
-      (λ t. rw (count-sound, t))
-
--- ---- numbers
-pub number-short : (s : List ℕ) → length s ≤ 3 → numberOf 1000 s ≡ number s
-unfolding number
-number-short s h = rw (le-leb (length s) 3 h)
-
-pub number-long : (s : List ℕ) → 3 < length s → 1000 ≡ number s
-unfolding number
-number-long s h = rw (lt-leb (length s) 3 h)
-
-number-empty : number [] ≡ 1000
-unfolding number numberOf
-number-empty = refl
-
-temp-empty : temperature [] ≡ 1000
-unfolding temperature
-temp-empty = refl
-
-pub temp-none : (s : List ℕ) → length s ≡ 0 → 1000 ≡ temperature s
-unfolding temperature
-temp-none [] h = refl
-temp-none (b ∷ s) h = absurd (omega (arith, h))
-
-minus : (s : List ℕ) → (length s ≡ 0 → ⊥) → eqb (getD s 0 0) 45 ≡ true → cold (number (drop 1 s)) ≡ temperature s
-unfolding temperature
-minus [] h e = absurd (h refl)
-minus (b ∷ s) h e = rw e
-
-no-minus : (s : List ℕ) → (length s ≡ 0 → ⊥) → eqb (getD s 0 0) 45 ≡ false → warm (number s) ≡ temperature s
-unfolding temperature
-no-minus [] h e = absurd (h refl)
-no-minus (b ∷ s) h e = rw e
-
-module _ (s : List ℕ) (h : length s ≡ 0 → ⊥) where
-  pub temp-minus : getD s 0 0 ≡ 45 → cold (number (take (length s - 1) (drop 1 s))) ≡ temperature s
-  temp-minus e =
-      let d = take-all (length s - 1) (drop 1 s) (simp length-drop (omega arith)) in
-      ap (λ (x : List ℕ). cold (number x)) d ∙ minus s h (eq-eqb _ _ e)
-
-  pub temp-plain : (getD s 0 0 ≡ 45 → ⊥) → warm (number s) ≡ temperature s
-  temp-plain e = no-minus s h (ne-eqb _ _ e)
+-- ---- the count of the fields tells whether a line passes 41
+pub count-ok : (l : List ℕ) (n : ℕ) → n ≡ fieldCount l → (c : Columns) → (not (eqb n 0) && eqb n (c .count)) ≡ lineOk c l
+unfolding lineOk
+count-ok l n e c =
+    either (sound l)
+    (λ t. rw (count-sound l n e, t, ← count-fields l n e t))
+    (λ t. rw (count-sound l n e, t))
 
 -- ---- a walk that looks for field k: what g makes of it, once field k is past; 1000 before
 abbrev pub soFar : (List ℕ → ℕ) → List ℕ → ℕ → ℕ → ℕ
@@ -159,11 +110,14 @@ module _ {c : Columns} {l : List ℕ} {a n x y z : ℕ} (w : Walked c l a n x y 
     walked-next g = record { counted = counted-next f (w .counted) h g; cell = at-cell; flow = at-flow; last = at-temp }
 
 -- ---- a reading
-pub three-yes : (a b c : ℕ) → (leb a 15 && leb b 255 && leb c 255) ≡ true → (a ≤ 15) × (b ≤ 255) × (c ≤ 255)
-three-yes a b c e =
-    let f = and-yes (leb a 15 && leb b 255) (leb c 255) e in
-    let g = and-yes (leb a 15) (leb b 255) (f .0) in
-    (leb-true _ _ (g .0), leb-true _ _ (g .1), leb-true _ _ (f .1))
+module _ (x y z : ℕ) where
+  pub reading-yes : (e : Operation) → inRanges x y z ≡ true → e ≡ reported x y z → R.Made e ≡ readingOf x y z
+  unfolding readingOf
+  reading-yes e t g = rw (t, g)
+
+  pub reading-no : inRanges x y z ≡ false → R.Refused N.Number ≡ readingOf x y z
+  unfolding readingOf
+  reading-no t = rw t
 
 ok-sound : (c : Columns) (l : List ℕ) → lineOk c l ≡ true → sound l ≡ true
 unfolding lineOk
@@ -183,10 +137,6 @@ module _ {c : Columns} {l : List ℕ} {v : Values} (f : Found c l v) where
 
 -- ---- the first line
 module _ (h : List ℕ) where
-  pub head-sound : headerOk h ≡ true → sound h ≡ true
-  unfolding headerOk
-  head-sound e = and-yes _ _ (and-yes _ _ (and-yes _ _ e .0) .0) .0
-
   pub head-yes : (c : Columns) → headerOk h ≡ true → c ≡ columnsOf h → H.Named c ≡ headerOf h
   unfolding headerOf
   head-yes c t g = rw (t, g)

@@ -1,7 +1,7 @@
 -- A whole log: document 02, Q-5.
 use Prim.Native.Nat.{ℕ}
 use mathlib.Core.List.{List, [], _∷_}
-use Rattle.log_fields.specs.Lines.{lines}
+use Rattle.log_lines.specs.Lines.{lines}
 use Rattle.meter_log.specs.declared.Header.{Header}
 use Rattle.meter_log.specs.declared.Reading.{Reading}
 use Rattle.meter_log.specs.Reading.{headerOf, readLine}

@@ -1,6 +1,7 @@
 use mathlib.Core.Path.{sym, _∙_}
 use borrow.Author.Needs.{needs}
-use Rattle.meter_log.proofs.Laws.{head-sound, head-yes, head-no}
+use Rattle.log_columns.proofs.Laws.{head-sound}
+use Rattle.meter_log.proofs.Laws.{head-yes, head-no}
 use Rattle.meter_log.proofs.header_in.Statement.{statement}
 use Rattle.meter_log.proofs.header_in.Tie as tie
 

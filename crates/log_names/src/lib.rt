@@ -1,0 +1,52 @@
+// A name among the fields of a line (document 02, Q-5). Definitions: specs/Names.antt. An inner step: it takes the line `s`, which is
+// cut already, as it is; of an unsound line the last field is all that stands from an unsound quote's field on. Whoever calls asks
+// for soundness (`log_fields::count_in`).
+ghost use mathlib.Core.Path.{_≡_};
+ghost use mathlib.Core.Bool.{cond};
+ghost use Rattle.slices.specs.Bytes.{same};
+ghost use Rattle.log_quotes.specs.Quotes.{fields};
+ghost use Rattle.log_names.specs.Names.{times, column};
+
+// 1 where the two hold the same bytes, else 0.
+fn hit(s: &[u8], t: &[u8]) -> usize
+    ensures { λ r. ⌜ r ≡ cond (same (now (s .entry)) (now (t .entry))) 1 0 ⌝ }
+{
+    if slices::equal(s, t) { 1 } else { 0 }
+}
+
+// How many fields of the line `s` are `name`.
+pub fn times_in(s: &[u8], name: &[u8]) -> usize
+    ensures { λ r. ⌜ r ≡ times (now (name .entry)) (fields (now (s .entry))) ⌝ }
+{
+    let mut a = 0;
+    let mut n = 0;
+    loop {
+        let f = log_quotes::field_end(s, a);
+        let e = f.end;
+        n += hit(&s[a..e], name);
+        if e == s.len() {
+            return n;
+        }
+        a = e + 1;
+    }
+}
+
+// The first field of the line `s` that is `name`.
+pub fn column_in(s: &[u8], name: &[u8]) -> usize
+    ensures { λ r. ⌜ r ≡ column (now (name .entry)) (fields (now (s .entry))) ⌝ }
+{
+    let mut a = 0;
+    let mut k = 0;
+    loop {
+        let f = log_quotes::field_end(s, a);
+        let e = f.end;
+        if slices::equal(&s[a..e], name) {
+            return k;
+        }
+        if e == s.len() {
+            return k + 1;
+        }
+        a = e + 1;
+        k += 1;
+    }
+}
