@@ -14,8 +14,8 @@ use mir.Val.{SFits, toZ, ofZ}
 use Rattle.slices.specs.Bytes.{put}
 use Rattle.text.specs.Text.{decimalOf}
 use Rattle.text.proofs.Signed.{back, small}
-use Rattle.trial_said.specs.Word.{datum, signedDatum}
-use Rattle.trial_said.proofs.Laws.{Wrote, digits-16}
+use Rattle.text_put.specs.Datum.{datum, signedDatum}
+use Rattle.text_put.proofs.Laws.{Wrote, digits-16}
 
 above : (z : ℤ) → ltZ z (pos 0) ≡ false → datum (natAbs z) ≡ signedDatum z
 above (pos n) e = refl

@@ -3,10 +3,10 @@ use mathlib.Core.List.{[], _∷_}
 use native.Mathlib.Omega.{arith}
 use lib.ListN.{length}
 use Rattle.text.specs.Text.{decimalOf}
-use Rattle.trial_said.proofs.Laws.{Wrote, then, digits-32}
+use Rattle.text_put.proofs.Laws.{Wrote, then, digits-32}
 use borrow.Author.Needs.{needs}
-use Rattle.trial_said.proofs.put_datum.Statement.{statement}
-use Rattle.trial_said.proofs.put_datum.Tie as tie
+use Rattle.text_put.proofs.put_datum.Statement.{statement}
+use Rattle.text_put.proofs.put_datum.Tie as tie
 
 slice-aggregate-put-bytes : tie.Need-slice-aggregate-put-bytes
 slice-aggregate-put-bytes c = search needs

@@ -3,11 +3,11 @@ use mathlib.Core.List.{[], _∷_}
 use native.Mathlib.Omega.{arith}
 use lib.ListN.{length}
 use Rattle.text.specs.Text.{decimalOf}
-use Rattle.trial_said.proofs.Laws.{Wrote, then}
-use Rattle.trial_said.proofs.Signed.{sized, put-above, put-below}
+use Rattle.text_put.proofs.Laws.{Wrote, then}
+use Rattle.text_put.proofs.Signed.{sized, put-above, put-below}
 use borrow.Author.Needs.{needs}
-use Rattle.trial_said.proofs.put_signed.Statement.{statement}
-use Rattle.trial_said.proofs.put_signed.Tie as tie
+use Rattle.text_put.proofs.put_signed.Statement.{statement}
+use Rattle.text_put.proofs.put_signed.Tie as tie
 
 slice-aggregate-put-bytes : tie.Need-slice-aggregate-put-bytes
 slice-aggregate-put-bytes c = search needs

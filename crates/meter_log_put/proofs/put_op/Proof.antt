@@ -3,13 +3,13 @@ use mathlib.Core.Path.{_≡_}
 use native.Mathlib.Omega.{arith}
 use lib.ListN.{length}
 use borrow.Author.Needs.{needs}
-use Rattle.meter_log_told.specs.Told.{opText}
+use Rattle.meter_log_put.specs.Text.{opText}
 use Rattle.operation.specs.Operation.{signed}
-use Rattle.trial_said.specs.Word.{datum, signedDatum}
+use Rattle.text_put.specs.Datum.{datum, signedDatum}
 use Rattle.text.specs.Text.{decimalOf}
-use Rattle.trial_said.proofs.Laws.{Wrote, then, digits-16}
-use Rattle.meter_log_told.proofs.put_op.Statement.{statement}
-use Rattle.meter_log_told.proofs.put_op.Tie as tie
+use Rattle.text_put.proofs.Laws.{Wrote, then, digits-16}
+use Rattle.meter_log_put.proofs.put_op.Statement.{statement}
+use Rattle.meter_log_put.proofs.put_op.Tie as tie
 use mir.Facts.{toZ-ofZ}
 use mir.Val.{toZ, ofZ}
 use mir.Syntax.{w16}
