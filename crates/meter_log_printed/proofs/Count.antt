@@ -12,7 +12,7 @@ use Rattle.slices.specs.Bytes.{all}
 use Rattle.slices.proofs.Laws.{all-append}
 use Rattle.text.specs.Text.{onFirst, cut, digits, decimalOf}
 use Rattle.text.proofs.Laws.{either}
-use Rattle.trial_said.specs.Word.{datum, signedDatum}
+use Rattle.text_put.specs.Datum.{datum, signedDatum}
 use Rattle.operation.specs.declared.Operation.{Operation}
 use Rattle.operation.specs.Operation.{signed}
 use Rattle.log_fields.specs.Lines.{pieceLines, lines}
@@ -24,7 +24,8 @@ use Rattle.meter_log_told.specs.declared.Log.the-variants as L
 use Rattle.meter_log_told.specs.declared.LineTold.{LineTold}
 use Rattle.meter_log_told.specs.declared.LineTold.the-variants as T
 use Rattle.meter_log_told.specs.declared.LogStep.{LogStep}
-use Rattle.meter_log_told.specs.Told.{tellWhole, tellLast, opText, toldBytes}
+use Rattle.meter_log_told.specs.Told.{tellWhole, tellLast}
+use Rattle.meter_log_put.specs.Text.{opText, toldText, toldBytes}
 use Rattle.meter_log_lines.specs.Lines.{Run, advance}
 use Rattle.meter_log_lines.specs.Printed.{runInput, printedOf}
 use Rattle.meter_log_printed.proofs.Runs.{runOf, whole-run, last-run, none-run}
@@ -71,13 +72,22 @@ pub record Ended (s : List ℕ) : Type 0 where
   pub free : noFeed line ≡ true
   pub whole : s ≡ line ++ (10 ∷ [])
 
+text-free : (d : LineTold) → noFeed (toldText d) ≡ true
+unfolding toldText all
+text-free T.Header = refl
+text-free (T.Made e) = op-free e
+text-free (T.Refused why) = datum-free (refusalNo why)
+text-free T.Long = refl
+
+number-free : (n : ℕ) → noFeed (decimalOf n ++ (32 ∷ [])) ≡ true
+unfolding all
+number-free n = free-append (decimalOf n) (32 ∷ []) (decimal-free n) refl
+
 -- such is what is printed for a line
-pub told-ended : (d : LineTold) → Ended (toldBytes d)
-unfolding toldBytes all
-told-ended T.Header = record { line = 104 ∷ 101 ∷ 97 ∷ 100 ∷ 101 ∷ 114 ∷ []; free = refl; whole = refl }
-told-ended (T.Made e) = record { line = opText e; free = op-free e; whole = refl }
-told-ended (T.Refused why) = record { line = (110 ∷ 111 ∷ []) ++ datum (refusalNo why); free = datum-free (refusalNo why); whole = refl }
-told-ended T.Long = record { line = 108 ∷ 111 ∷ 110 ∷ 103 ∷ []; free = refl; whole = refl }
+pub told-ended : (n : ℕ) (d : LineTold) → Ended (toldBytes n d)
+unfolding toldBytes
+told-ended n d =
+    record { line = decimalOf n ++ (32 ∷ []) ++ toldText d; free = free-append (decimalOf n ++ (32 ∷ [])) (toldText d) (number-free n) (text-free d); whole = refl }
 
 -- ---- pieces counted
 count-on : (c : ℕ) (ps : List (List ℕ)) → Some ps → length (onFirst c ps) ≡ length ps
@@ -98,7 +108,7 @@ unfolding glue all
 count-ended x = rw (x .whole, cut-glue (x .line) ([] ∷ []) (more (x .free) (more refl none)))
 
 count-after : (w : Run) (s : LogStep) → length (cut 10 (advance w s .printed)) ≡ length (cut 10 (w .printed)) + 1
-count-after w s = omega (arith, count-append (w .printed) (toldBytes (s .told)), count-ended (told-ended (s .told)))
+count-after w s = let n = w .number + 1 in omega (arith, count-append (w .printed) (toldBytes n (s .told)), count-ended (told-ended n (s .told)))
 
 count-run : (w : Run) (ps : List (List ℕ)) → length (cut 10 (runInput w ps .printed)) ≡ length (cut 10 (w .printed)) + length (pieceLines ps)
 unfolding runInput pieceLines
@@ -119,4 +129,4 @@ count-none = refl
 -- for every text, over-long lines and all, what is printed has as many line feeds as the text has lines: one more piece than that
 pub printed-lines : (t : List ℕ) → length (cut 10 (printedOf t)) ≡ suc (length (lines t))
 unfolding printedOf
-printed-lines t = omega (arith, count-run (runOf L.Start []) (cut 10 t), count-none)
+printed-lines t = omega (arith, count-run (runOf L.Start 0 []) (cut 10 t), count-none)

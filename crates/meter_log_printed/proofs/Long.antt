@@ -1,5 +1,5 @@
 -- What the program prints for over-long lines. Assumes nothing.
-use Prim.Native.Nat.{ℕ, _<_}
+use Prim.Native.Nat.{ℕ, _+_, _<_}
 use mathlib.Core.Path.{_≡_, refl, sym, ap, _∙_}
 use mathlib.Core.List.{List, [], _∷_, _++_, append-nil, append-assoc}
 use mathlib.Core.Bool.{true}
@@ -14,7 +14,8 @@ use Rattle.meter_log_told.specs.declared.Log.{Log}
 use Rattle.meter_log_told.specs.declared.Log.the-variants as L
 use Rattle.meter_log_told.specs.declared.LineTold.the-variants as T
 use Rattle.meter_log_told.specs.declared.LogStep.{LogStep}
-use Rattle.meter_log_told.specs.Told.{tellLine, tellLong, lineLimit, isLong, tellWhole, tellLast, toldBytes}
+use Rattle.meter_log_told.specs.Told.{tellLine, tellLong, lineLimit, isLong, tellWhole, tellLast}
+use Rattle.meter_log_put.specs.Text.{toldBytes}
 use Rattle.meter_log_lines.specs.Printed.{runInput, printedOf}
 use Rattle.meter_log_printed.proofs.Runs.{runOf, printed, whole-run, last-run, none-run}
 
@@ -60,30 +61,30 @@ last-under : (p : List ℕ) → tellLast L.Long p ≡ long
 unfolding tellLast tellLine tellLong
 last-under p = either (isLong p) (λ e. rw e) (λ e. rw e)
 
--- `long` for each line
-unfoldable pub longText : List (List ℕ) → List ℕ
-longText [] = []
-longText (l ∷ ls) = toldBytes T.Long ++ longText ls
+-- `long` for each line, after n lines
+unfoldable pub longText : ℕ → List (List ℕ) → List ℕ
+longText n [] = []
+longText n (l ∷ ls) = toldBytes (n + 1) T.Long ++ longText (n + 1) ls
 
-under-long : (ps : List (List ℕ)) (P : List ℕ) → runInput (runOf L.Long P) ps .printed ≡ P ++ longText (pieceLines ps)
+under-long : (ps : List (List ℕ)) (n : ℕ) (P : List ℕ) → runInput (runOf L.Long n P) ps .printed ≡ P ++ longText n (pieceLines ps)
 unfolding runInput pieceLines longText
-under-long [] P = sym (append-nil P)
-under-long ([] ∷ []) P = ap printed (none-run (runOf L.Long P)) ∙ sym (append-nil P)
-under-long ((b ∷ l) ∷ []) P = ap printed (last-run (runOf L.Long P) b l long (last-under (b ∷ l))) ∙ rw append-nil
-under-long (p ∷ q ∷ ps) P =
-    let s = toldBytes T.Long in
-    ap printed (whole-run (runOf L.Long P) p q ps long (whole-under p))
-    ∙ under-long (q ∷ ps) (P ++ s)
-    ∙ append-assoc P s (longText (pieceLines (q ∷ ps)))
+under-long [] n P = sym (append-nil P)
+under-long ([] ∷ []) n P = ap printed (none-run (runOf L.Long n P)) ∙ sym (append-nil P)
+under-long ((b ∷ l) ∷ []) n P = ap printed (last-run (runOf L.Long n P) b l long (last-under (b ∷ l))) ∙ rw append-nil
+under-long (p ∷ q ∷ ps) n P =
+    let s = toldBytes (n + 1) T.Long in
+    ap printed (whole-run (runOf L.Long n P) p q ps long (whole-under p))
+    ∙ under-long (q ∷ ps) (n + 1) (P ++ s)
+    ∙ append-assoc P s (longText (n + 1) (pieceLines (q ∷ ps)))
 
-start-long : (ps : List (List ℕ)) → isLong (getD ps 0 []) ≡ true → runInput (runOf L.Start []) ps .printed ≡ longText (pieceLines ps)
+start-long : (ps : List (List ℕ)) → isLong (getD ps 0 []) ≡ true → runInput (runOf L.Start 0 []) ps .printed ≡ longText 0 (pieceLines ps)
 unfolding tellLong pieceLines longText
 start-long [] e = absurd (none-long e)
 start-long ([] ∷ []) e = absurd (none-long e)
-start-long ((b ∷ l) ∷ []) e = ap printed (last-run (runOf L.Start []) b l long (long-last L.Start (b ∷ l) e)) ∙ rw append-nil
-start-long (p ∷ q ∷ ps) e = ap printed (whole-run (runOf L.Start []) p q ps long (long-whole L.Start p e)) ∙ under-long (q ∷ ps) (toldBytes T.Long)
+start-long ((b ∷ l) ∷ []) e = ap printed (last-run (runOf L.Start 0 []) b l long (long-last L.Start (b ∷ l) e)) ∙ rw append-nil
+start-long (p ∷ q ∷ ps) e = ap printed (whole-run (runOf L.Start 0 []) p q ps long (long-whole L.Start p e)) ∙ under-long (q ∷ ps) 1 (toldBytes 1 T.Long)
 
 -- where the first line is over-long, the program prints `long` for each line, over-long or not
-pub long-first : (t : List ℕ) → isLong (getD (cut 10 t) 0 []) ≡ true → printedOf t ≡ longText (lines t)
+pub long-first : (t : List ℕ) → isLong (getD (cut 10 t) 0 []) ≡ true → printedOf t ≡ longText 0 (lines t)
 unfolding printedOf
 long-first t e = start-long (cut 10 t) e

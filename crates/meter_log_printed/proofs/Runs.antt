@@ -8,9 +8,9 @@ use Rattle.meter_log_told.specs.Told.{tellWhole, tellLast}
 use Rattle.meter_log_lines.specs.Lines.{Run, advance}
 use Rattle.meter_log_lines.specs.Printed.{runLast, runInput}
 
--- a run, by its log and what it printed
-abbrev pub runOf : Log → List ℕ → Run
-runOf g P = record { log = g; printed = P }
+-- a run, by its log, how many lines there were, and what it printed
+abbrev pub runOf : Log → ℕ → List ℕ → Run
+runOf g n P = record { log = g; number = n; printed = P }
 
 abbrev pub printed : Run → List ℕ
 printed w = w .printed

@@ -1,20 +1,16 @@
--- What the log program tells of each line, and prints.
+-- What the log program tells of each line.
 use Prim.Native.Nat.{ℕ}
-use mathlib.Core.List.{List, [], _∷_, _++_}
+use mathlib.Core.List.{List}
 use mathlib.Core.Bool.{Bool, cond}
 use lib.ListN.{length}
 use lib.Dec.{ltb}
-use Rattle.text.specs.Text.{decimalOf}
-use Rattle.trial_said.specs.Word.{datum, signedDatum}
-use Rattle.operation.specs.declared.Operation.{Operation}
-use Rattle.operation.specs.Operation.{signed}
 use Rattle.log_fields.specs.Lines.{lessReturn}
 use Rattle.meter_log.specs.declared.Header.{Header}
 use Rattle.meter_log.specs.declared.Header.the-variants as H
 use Rattle.meter_log.specs.declared.Refusal.the-variants as N
 use Rattle.meter_log.specs.declared.Reading.{Reading}
 use Rattle.meter_log.specs.declared.Reading.the-variants as R
-use Rattle.meter_log.specs.Reading.{refusalNo, headerOf, readLine}
+use Rattle.meter_log.specs.Reading.{headerOf, readLine}
 use Rattle.meter_log_told.specs.declared.Log.{Log}
 use Rattle.meter_log_told.specs.declared.Log.the-variants as L
 use Rattle.meter_log_told.specs.declared.LineTold.{LineTold}
@@ -55,15 +51,3 @@ tellWhole g p = cond (isLong p) (tellLong g) (tellLine g (lessReturn p))
 
 unfoldable pub tellLast : Log → List ℕ → LogStep
 tellLast g p = cond (isLong p) (tellLong g) (tellLine g p)
-
--- ---- what is printed
--- kind, cell, amount and temperature
-unfoldable pub opText : Operation → List ℕ
-opText e = decimalOf (e .kind) ++ datum (e .cell) ++ datum (e .amount) ++ signedDatum (signed (e .last))
-
--- `header`, the operation, `no` and the number, `long`; and a line feed
-unfoldable pub toldBytes : LineTold → List ℕ
-toldBytes T.Header = 104 ∷ 101 ∷ 97 ∷ 100 ∷ 101 ∷ 114 ∷ 10 ∷ []
-toldBytes (T.Made e) = opText e ++ (10 ∷ [])
-toldBytes (T.Refused why) = (110 ∷ 111 ∷ []) ++ datum (refusalNo why) ++ (10 ∷ [])
-toldBytes T.Long = 108 ∷ 111 ∷ 110 ∷ 103 ∷ 10 ∷ []

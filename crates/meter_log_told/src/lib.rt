@@ -1,13 +1,7 @@
-// What the log program tells of each line, and prints. Definitions: specs/Told.antt.
+// What the log program tells of each line. Definitions: specs/Told.antt.
 ghost use mathlib.Core.Path.{_≡_};
-ghost use Prim.Native.Nat.{_+_, _≤_};
-ghost use mathlib.Core.List.{[], _∷_, _++_};
-ghost use lib.ListN.{length};
-ghost use Rattle.slices.specs.Bytes.{put};
-ghost use Rattle.trial_said.specs.Word.{datum};
-ghost use Rattle.meter_log.specs.Reading.{refusalNo};
 ghost use Rattle.meter_log_told.specs.declared.Log.the-variants.{Start, Under};
-ghost use Rattle.meter_log_told.specs.Told.{tellHeader, tellReading, tellLine, tellLong, tellWhole, tellLast, opText, toldBytes};
+ghost use Rattle.meter_log_told.specs.Told.{tellHeader, tellReading, tellLine, tellLong, tellWhole, tellLast};
 use meter_log::Header;
 use meter_log::Reading;
 use meter_log::Refusal;
@@ -127,48 +121,4 @@ pub fn tell_last(log: Log, s: &[u8]) -> LogStep
         return tell_long(log);
     }
     tell_line(log, s)
-}
-
-// ---- each function writes from `at` on, and answers the place after it
-
-fn put_op(out: &mut [u8], at: usize, e: Operation) -> usize
-    requires { ⌜ at + 38 ≤ length (now out) ⌝ }
-    ensures { λ r. ⌜ (r ≡ at + length (opText e)) × (now (out .exit) ≡ put (now (out .entry)) at (opText e)) × (r ≤ at + 38) ⌝ }
-{
-    let i = text::decimal(out, at, e.kind as u64);
-    let j = trial_said::put_datum(out, i, e.cell as u32);
-    let k = trial_said::put_datum(out, j, e.amount as u32);
-    trial_said::put_signed(out, k, operation_run::signed_of(e.last))
-}
-
-fn put_made(out: &mut [u8], at: usize, e: Operation) -> usize
-    requires { ⌜ at + 39 ≤ length (now out) ⌝ }
-    ensures { λ r. ⌜ (r ≡ at + length (opText e ++ (10 ∷ []))) × (now (out .exit) ≡ put (now (out .entry)) at (opText e ++ (10 ∷ []))) × (r ≤ at + 39) ⌝ }
-{
-    let i = put_op(out, at, e);
-    trial_said::put_bytes(out, i, b"\n")
-}
-
-fn put_refused(out: &mut [u8], at: usize, why: Refusal) -> usize
-    requires { ⌜ at + 14 ≤ length (now out) ⌝ }
-    ensures { λ r. ⌜ (r ≡ at + length ((110 ∷ 111 ∷ []) ++ datum (refusalNo why) ++ (10 ∷ [])))
-        × (now (out .exit) ≡ put (now (out .entry)) at ((110 ∷ 111 ∷ []) ++ datum (refusalNo why) ++ (10 ∷ [])))
-        × (r ≤ at + 14) ⌝ }
-{
-    let i = trial_said::put_bytes(out, at, b"no");
-    let j = trial_said::put_datum(out, i, meter_log::refusal_number(why) as u32);
-    trial_said::put_bytes(out, j, b"\n")
-}
-
-// The line that is printed. 64 bytes are enough.
-pub fn put_told(out: &mut [u8], at: usize, told: LineTold) -> usize
-    requires { ⌜ at + 64 ≤ length (now out) ⌝ }
-    ensures { λ r. ⌜ (r ≡ at + length (toldBytes told)) × (now (out .exit) ≡ put (now (out .entry)) at (toldBytes told)) × (r ≤ at + 64) ⌝ }
-{
-    match told {
-        LineTold::Header => trial_said::put_bytes(out, at, b"header\n"),
-        LineTold::Made(e) => put_made(out, at, e),
-        LineTold::Refused(why) => put_refused(out, at, why),
-        LineTold::Long => trial_said::put_bytes(out, at, b"long\n"),
-    }
 }

@@ -15,8 +15,8 @@ pub fn put_line(out: &mut [u8], at: usize, number: u64, van: u8, said: LineWord)
         × (r ≤ at + 64) ⌝ }
 {
     let i = text::decimal(out, at, number);
-    let j = trial_said::put_datum(out, i, van as u32);
-    let k = trial_said::put_bytes(out, j, b" ");
+    let j = text_put::put_datum(out, i, van as u32);
+    let k = text_put::put_bytes(out, j, b" ");
     let l = trial_said::put_said(out, k, said);
-    trial_said::put_bytes(out, l, b"\n")
+    text_put::put_bytes(out, l, b"\n")
 }

@@ -1,9 +1,8 @@
 -- What a line of input gives: a word and its data (document 01, "Cases").
-use Prim.Native.Nat.{ℕ, _+_}
+use Prim.Native.Nat.{ℕ}
 use mathlib.Core.List.{List, [], _∷_, _++_}
-use lib.IntN.{ℤ, pos, negsuc}
 use Rattle.operation.specs.Operation.{Response}
-use Rattle.text.specs.Text.{decimalOf}
+use Rattle.text_put.specs.Datum.{datum, signedDatum}
 use Rattle.trial_said.specs.declared.LineWord.{LineWord}
 use Rattle.trial_said.specs.declared.LineWord.the-variants as S
 
@@ -30,15 +29,6 @@ wordOf (S.No n) = nay n
 wordOf (S.Halt n) = halt n
 wordOf S.Bad = bad
 wordOf S.Full = full
-
--- a number after a space
-abbrev pub datum : ℕ → List ℕ
-datum n = 32 ∷ decimalOf n
-
--- the same of a signed one: a minus sign before a negative one
-abbrev pub signedDatum : ℤ → List ℕ
-signedDatum (pos n) = datum n
-signedDatum (negsuc n) = 32 ∷ 45 ∷ decimalOf (n + 1)
 
 -- the word in ASCII, and its data
 unfoldable pub wordBytes : Word → List ℕ

@@ -4,7 +4,8 @@ ghost use mathlib.Core.List.{_++_};
 ghost use Prim.Native.Nat.{_+_, _≤_};
 ghost use lib.ListN.{length};
 ghost use Rattle.slices.specs.Bytes.{put};
-ghost use Rattle.trial_said.specs.Word.{wordOf, datum, signedDatum, wordBytes, answer as answerWord};
+ghost use Rattle.text_put.specs.Datum.{datum};
+ghost use Rattle.trial_said.specs.Word.{wordOf, wordBytes, answer as answerWord};
 use operation::Response;
 
 // What a line of input gives.
@@ -22,36 +23,6 @@ pub enum LineWord {
 
 // ---- each function writes from `at` on, and answers the place after it
 
-pub fn put_bytes(out: &mut [u8], at: usize, s: &[u8]) -> usize
-    requires { ⌜ at + length (now s) ≤ length (now out) ⌝ }
-    ensures { λ r. ⌜ (r ≡ at + length (now (s .entry))) × (now (out .exit) ≡ put (now (out .entry)) at (now (s .entry))) ⌝ }
-{
-    slices::copy_to(out, at, s);
-    at + s.len()
-}
-
-// A number after a space.
-pub fn put_datum(out: &mut [u8], at: usize, n: u32) -> usize
-    requires { ⌜ at + 11 ≤ length (now out) ⌝ }
-    ensures { λ r. ⌜ (r ≡ at + length (datum n)) × (now (out .exit) ≡ put (now (out .entry)) at (datum n)) × (r ≤ at + 11) ⌝ }
-{
-    let i = put_bytes(out, at, b" ");
-    text::decimal(out, i, n as u64)
-}
-
-// A signed number after a space.
-pub fn put_signed(out: &mut [u8], at: usize, z: i16) -> usize
-    requires { ⌜ at + 11 ≤ length (now out) ⌝ }
-    ensures { λ r. ⌜ (r ≡ at + length (signedDatum z)) × (now (out .exit) ≡ put (now (out .entry)) at (signedDatum z)) × (r ≤ at + 11) ⌝ }
-{
-    if z < 0 {
-        let i = put_bytes(out, at, b" -");
-        text::decimal(out, i, text::magnitude(z) as u64)
-    } else {
-        put_datum(out, at, text::magnitude(z))
-    }
-}
-
 // A word with one number.
 fn put_one(out: &mut [u8], at: usize, s: &[u8], n: u32) -> usize
     requires { ⌜ at + length (now s) + 11 ≤ length (now out) ⌝ }
@@ -59,8 +30,8 @@ fn put_one(out: &mut [u8], at: usize, s: &[u8], n: u32) -> usize
         × (now (out .exit) ≡ put (now (out .entry)) at (now (s .entry) ++ datum n))
         × (r ≤ at + length (now (s .entry)) + 11) ⌝ }
 {
-    let i = put_bytes(out, at, s);
-    put_datum(out, i, n)
+    let i = text_put::put_bytes(out, at, s);
+    text_put::put_datum(out, i, n)
 }
 
 // A word with two numbers.
@@ -71,7 +42,7 @@ fn put_two(out: &mut [u8], at: usize, s: &[u8], m: u32, n: u32) -> usize
         × (r ≤ at + length (now (s .entry)) + 22) ⌝ }
 {
     let i = put_one(out, at, s, m);
-    put_datum(out, i, n)
+    text_put::put_datum(out, i, n)
 }
 
 // An answer with its place.
@@ -82,7 +53,7 @@ fn put_answer(out: &mut [u8], at: usize, place: u32, answer: Response) -> usize
         × (r ≤ at + 29) ⌝ }
 {
     let i = put_one(out, at, b"answer", place);
-    put_signed(out, i, answer)
+    text_put::put_signed(out, i, answer)
 }
 
 // The word and its data. 29 bytes are enough.
@@ -97,10 +68,10 @@ pub fn put_said(out: &mut [u8], at: usize, said: LineWord) -> usize
         LineWord::Answer { place, answer } => put_answer(out, at, place, answer),
         LineWord::Aside(p) => put_one(out, at, b"aside", p),
         LineWord::Confirm { place, status } => put_two(out, at, b"confirm", place, status as u32),
-        LineWord::Empty => put_bytes(out, at, b"empty"),
+        LineWord::Empty => text_put::put_bytes(out, at, b"empty"),
         LineWord::No(n) => put_one(out, at, b"no", n as u32),
         LineWord::Halt(n) => put_one(out, at, b"halt", n as u32),
-        LineWord::Bad => put_bytes(out, at, b"bad"),
-        LineWord::Full => put_bytes(out, at, b"full"),
+        LineWord::Bad => text_put::put_bytes(out, at, b"bad"),
+        LineWord::Full => text_put::put_bytes(out, at, b"full"),
     }
 }

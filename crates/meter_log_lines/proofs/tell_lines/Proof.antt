@@ -10,13 +10,13 @@ use Rattle.meter_log_lines.proofs.tell_lines.Statement.{statement}
 use Rattle.meter_log_lines.proofs.tell_lines.Tie as tie
 
 abbrev Inv-loop : tie.InvT-loop
-Inv-loop text out₀ room g₀ at₀ filled₀ out g at filled = (room ≡ length out₀) × So g₀ text out₀ g out at filled
+Inv-loop number text out₀ room g₀ count₀ at₀ filled₀ out g count at filled = (room ≡ length out₀) × So g₀ number text out₀ g out count at filled
 
 abbrev μ-loop : tie.MeasureT-loop
-μ-loop text out₀ room g₀ at₀ filled₀ out g at filled = length text - at
+μ-loop number text out₀ room g₀ count₀ at₀ filled₀ out g count at filled = length text - at
 
 loop-holds : tie.Need-loop-holds Inv-loop μ-loop
-loop-holds c = (refl, so-none _ _ _)
+loop-holds c = (refl, so-none _ _ _ _)
 
 sub-loop : tie.Need-sub-loop Inv-loop μ-loop
 sub-loop c = let k = c .loop .inv in omega (arith, k .0, k .1 .buffer .room)
@@ -42,8 +42,29 @@ part-tell-whole-end c = let k = c .before .before .before .loop .inv .1 in let f
 tell-whole-requires : tie.Need-tell-whole-requires Inv-loop μ-loop
 tell-whole-requires c κs = search needs
 
+add-put-told : tie.Need-add-put-told Inv-loop μ-loop
+add-put-told c =
+    let k = c .before .before .before .before .before .before .loop .inv .1 in
+    let f = c .before .before .before .before .find in
+    let e = cut-most (k .cut) (f .result) (f .ensures) in
+    record { fits = omega (arith, k .each, k .cut .within, e, c .before .before .before .if1 .left, f .ensures, c .before .before .before .before .before .before .before .before .before .pre, c .before .before .before .before .before .before .before .before .before .good .1 .0) }
+
+add-put-told-2 : tie.Need-add-put-told-2 Inv-loop μ-loop
+add-put-told-2 c =
+    let k = c .before .before .before .before .before .before .loop .inv .1 in
+    let f = c .before .before .before .before .find in
+    let e = cut-most (k .cut) (f .result) (f .ensures) in
+    record { fits = omega (arith, k .each, k .cut .within, e, c .before .before .before .if1 .left, f .ensures, c .before .before .before .before .before .before .before .before .before .pre, c .before .before .before .before .before .before .before .before .before .good .1 .0) }
+
 put-told-requires : tie.Need-put-told-requires Inv-loop μ-loop
 put-told-requires c κs = let k = c .before .before .before .before .before .before .loop .inv in omega (arith, k .0, c .before .before .before .before .before .loop-test .taken, k .1 .buffer .room, k .1 .buffer .same)
+
+add-count : tie.Need-add-count Inv-loop μ-loop
+add-count c =
+    let k = c .before .before .before .before .before .before .before .before .before .loop .inv .1 in
+    let f = c .before .before .before .before .before .before .before .find in
+    let e = cut-most (k .cut) (f .result) (f .ensures) in
+    record { fits = omega (arith, k .each, k .cut .within, e, c .before .before .before .before .before .before .if1 .left, f .ensures, c .before .before .before .before .before .before .before .before .before .before .before .before .pre, c .before .before .before .before .before .before .before .before .before .before .before .before .good .1 .0) }
 
 add-at : tie.Need-add-at Inv-loop μ-loop
 add-at c = let k = c .before .before .before .before .before .before .before .before .before .loop .inv .1 in let f = c .before .before .before .before .before .before .before .find in let e = cut-most (k .cut) (f .result) (f .ensures) in let g = c .before .before .before .before .before .before .if1 .left in search needs
@@ -75,7 +96,10 @@ tell-lines-spec =
     part-tell-whole-start
     part-tell-whole-end
     tell-whole-requires
+    add-put-told
+    add-put-told-2
     put-told-requires
+    add-count
     add-at
     loop-less
     loop-again

@@ -4,10 +4,10 @@ use mathlib.Core.List.{[], _∷_}
 use native.Mathlib.Omega.{arith}
 use lib.ListN.{length}
 use Rattle.text.specs.Text.{decimalOf}
-use Rattle.trial_said.specs.Word.{wordOf, datum, wordBytes}
+use Rattle.text_put.specs.Datum.{datum}
+use Rattle.trial_said.specs.Word.{wordOf, wordBytes}
 use Rattle.trial_print.specs.Line.{lineBytes}
-use Rattle.trial_said.proofs.Laws.{Wrote, then}
-use Rattle.trial_print.proofs.Laws.{digits-64}
+use Rattle.text_put.proofs.Laws.{Wrote, then, digits-64}
 use borrow.Author.Needs.{needs}
 use Rattle.trial_print.proofs.put_line.Statement.{statement}
 use Rattle.trial_print.proofs.put_line.Tie as tie

@@ -4,8 +4,9 @@ use native.Mathlib.Omega.{arith}
 use mir.Syntax.{w16}
 use mir.Val.{toZ, ofZ}
 use mir.Facts.{toZ-ofZ}
-use Rattle.trial_said.specs.Word.{datum, signedDatum, wordBytes}
-use Rattle.trial_said.proofs.Laws.{Wrote, then}
+use Rattle.text_put.specs.Datum.{datum, signedDatum}
+use Rattle.trial_said.specs.Word.{wordBytes}
+use Rattle.text_put.proofs.Laws.{Wrote, then}
 use borrow.Author.Needs.{needs}
 use Rattle.trial_said.proofs.put_answer.Statement.{statement}
 use Rattle.trial_said.proofs.put_answer.Tie as tie

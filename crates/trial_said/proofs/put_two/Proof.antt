@@ -1,8 +1,8 @@
 use Prim.Native.Nat.{_+_}
 use mathlib.Core.List.{_++_}
 use native.Mathlib.Omega.{arith}
-use Rattle.trial_said.specs.Word.{datum}
-use Rattle.trial_said.proofs.Laws.{Wrote, then}
+use Rattle.text_put.specs.Datum.{datum}
+use Rattle.text_put.proofs.Laws.{Wrote, then}
 use borrow.Author.Needs.{needs}
 use Rattle.trial_said.proofs.put_two.Statement.{statement}
 use Rattle.trial_said.proofs.put_two.Tie as tie
