@@ -27,6 +27,7 @@ try() {
 try claims python3 tests/claims.py --check
 try lines python3 tests/lines.py
 try self_check python3 tests/self_check.py
+if [ -f tests/wrong_runs.py ]; then try wrong_runs python3 tests/wrong_runs.py; fi
 # The library is proved and built once, for all that follow.
 try library rt staticlib cop_c
 export COP_BUILD=true

@@ -6,8 +6,9 @@
 
 It fails on a name in CLAIMS.md that its file does not define, on a file that is not there, on an edit that no claim names, on
 an edit named that is not there, on a claim in edits.txt that CLAIMS.md does not have, on a public call's claim with fewer
-than two edits, on an edit of a definition or a theorem's statement without a reason (`[why]` in edits.txt), on a file of a
-crate that a page names and that is not there, and on a file of definitions that READING.md does not name.
+than two edits, on an edit of a definition or a theorem's statement without a reason (in its comment after "False:", or in
+edits.txt under `[why]`), on a file of a crate that a page names and that is not there, and on a file of definitions that
+READING.md does not name.
 """
 
 import re
@@ -58,7 +59,7 @@ class Edit:
             if not line.startswith("#"):
                 break
             comment.append(line.lstrip("# ").strip())
-        self.comment = " ".join(comment)
+        self.comment, _, self.why = (x.strip() for x in " ".join(comment).partition("False:"))
         self.file = next((x[5:].strip() for x in lines if x.startswith("file:")), "")
         old = next((x[4:].strip() for x in lines if x.startswith("old:")), "")
         self.changes = self.kind(path.parent.parent, old)
@@ -214,12 +215,14 @@ def check_pages():
 
 
 def tidy(named, why, there):
-    """Edits that are in another crate now, and such that are nowhere."""
+    """Edits that are in another crate now, told by their name and, by EDITS.md, their comment; and such that are nowhere."""
     known = {e for edits in named.values() for e in edits}
+    rows = re.findall(r"^\| (\w+) \| (\w+) \| \w+ \| (.*) \|$", MADE.read_text(encoding="utf-8"), re.M) if MADE.exists() else []
+    comments = {f"{crate}/{name}": comment for crate, name, comment in rows}
     for old in sorted((known | set(why)) - set(there)):
-        crate, name = old.split("/")
+        name = old.split("/")[1]
         new = [e for e in there if e.split("/")[1] == name and e not in known]
-        near = [e for e in new if e.startswith(crate.split("_")[0])] or new
+        near = [e for e in new if comments.get(old) == there[e].comment] or new
         if len(near) == 1:
             print(f"moved: {old} -> {near[0]}")
             for ident in named:
@@ -227,10 +230,13 @@ def tidy(named, why, there):
             if old in why:
                 why[near[0]] = why.pop(old)
         else:
-            print(f"gone: {old}" + (f" (or one of {', '.join(near)})" if near else ""))
+            print(f"gone: {old}" + (f" (or {', '.join(near)})" if near else ""))
             for ident in named:
                 named[ident] = [e for e in named[ident] if e != old]
             why.pop(old, None)
+    for e in [e for e in why if there[e].why]:
+        print(f"the reason stands in its comment: {e}")
+        del why[e]
     write_list(named, why)
 
 
@@ -250,8 +256,10 @@ def check_edits(claims, named, why, there):
     for e in sorted(set(why) - set(there)):
         fail(f"edits.txt has a reason for {e}, which is not there")
     for e, edit in there.items():
-        if edit.changes in ("definition", "statement") and e not in why:
-            fail(f"edit {e} changes a {edit.changes} and has no reason in edits.txt")
+        if edit.changes in ("definition", "statement") and not edit.why and e not in why:
+            fail(f"edit {e} changes a {edit.changes} and has no reason")
+        if edit.why and e in why:
+            fail(f"edit {e} has its reason in its comment and in edits.txt")
 
 
 def page(claims, named, why, there):
@@ -272,7 +280,8 @@ def page(claims, named, why, there):
         out.append("")
     out.append("## Why an edit of a definition or statement makes it false\n")
     out += ["| crate | edit | why |", "|---|---|---|"]
-    out += ["| {} | {} | {} |".format(*e.split("/"), why[e]) for e in sorted(why)]
+    reasons = {e: edit.why or why.get(e, "") for e, edit in there.items()}
+    out += ["| {} | {} | {} |".format(*e.split("/"), text) for e, text in reasons.items() if text]
     return "\n".join(out) + "\n"
 
 
