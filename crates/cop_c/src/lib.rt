@@ -11,26 +11,16 @@ ghost use Rattle.sha256.specs.Sha256.{digestNo, digestOut};
 ghost use Rattle.hmac.specs.Hmac.{tagNo, tagOut};
 ghost use Rattle.cop_said.specs.Said.{said, serverSaid};
 use cop_said::Said;
+use cop_start::Opened;
 use replica::Replica;
 use server::Server;
-
-// A client's state after its opening, and what the opening says.
-#[repr(C)]
-pub struct Opened {
-    pub replica: Replica,
-    pub said: Said,
-}
 
 // Opens a client.
 #[no_mangle]
 pub extern "C" fn cop_open(number: u8, keys: &[u8]) -> Opened
     ensures { λ q. ⌜ (q .replica ≡ openStep number (now (keys .entry)) .replica) × (q .said ≡ said (openStep number (now (keys .entry)) .says)) ⌝ }
 {
-    let s = client::open(number, keys);
-    let replica = s.replica;
-    let outcome = s.outcome;
-    let said = cop_said::client_said(outcome);
-    Opened { replica, said }
+    cop_start::cop_open(number, keys)
 }
 
 // Invokes an operation on the lent replica; the invoke goes to the front of `out`.
@@ -65,7 +55,7 @@ pub extern "C" fn cop_receive(r: &mut Replica, m: &[u8], out: &mut [u8]) -> Said
 pub extern "C" fn cop_fresh_server() -> Server
     ensures { λ q. ⌜ q ≡ freshServer ⌝ }
 {
-    server::fresh()
+    cop_start::cop_fresh_server()
 }
 
 // Takes a message on the line of a client on the lent server; what it calls for goes to the front of `out`.
