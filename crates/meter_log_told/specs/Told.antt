@@ -8,7 +8,7 @@ use Rattle.text.specs.Text.{decimalOf}
 use Rattle.trial_said.specs.Word.{datum, signedDatum}
 use Rattle.operation.specs.declared.Operation.{Operation}
 use Rattle.operation.specs.Operation.{signed}
-use Rattle.log_fields.specs.Lines.{lessReturn}
+use Rattle.log_lines.specs.Lines.{lessReturn}
 use Rattle.meter_log.specs.declared.Header.{Header}
 use Rattle.meter_log.specs.declared.Header.the-variants as H
 use Rattle.meter_log.specs.declared.Refusal.the-variants as N
