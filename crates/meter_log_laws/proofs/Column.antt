@@ -16,7 +16,8 @@ use Rattle.log_quotes.specs.Quotes.{fields, sound}
 use Rattle.log_names.specs.Names.{times, column}
 use Rattle.log_columns.proofs.Laws.{head-sound}
 use Rattle.log_columns.specs.Columns.{cellName, flowName, tempName, once, headerOk, columnsOf}
-use Rattle.meter_log.specs.Reading.{headerOf, lineOk, under, readColumns, readLine}
+use Rattle.log_values.specs.Values.{under}
+use Rattle.meter_log.specs.Reading.{headerOf, lineOk, readColumns, readLine}
 use Rattle.meter_log.specs.Log.{readAll}
 use Rattle.meter_log_laws.specs.Added.{insertAt, addAt, noReturn}
 use Rattle.meter_log_laws.specs.Grammar.{Field}

@@ -25,7 +25,8 @@ use Rattle.meter_log.specs.declared.Reading.the-variants as R
 use Rattle.log_number.specs.Number.{number, warm, cold, temperature}
 use Rattle.log_entry.specs.Entry.{inRanges, reported}
 use Rattle.log_entry.proofs.Laws.{three-yes}
-use Rattle.meter_log.specs.Reading.{readingOf, lineOk, under, readColumns, readLine}
+use Rattle.log_values.specs.Values.{under}
+use Rattle.meter_log.specs.Reading.{readingOf, lineOk, readColumns, readLine}
 
 -- ---- numbers
 digit-most : (b : ℕ) (s : List ℕ) → all isDigit (b ∷ s) ≡ true → (b - 48 ≤ 9) × (all isDigit s ≡ true)
