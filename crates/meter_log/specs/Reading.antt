@@ -1,16 +1,15 @@
 -- A line of the meters' log by the column names of the first: document 02, Q-5.
 use Prim.Native.Nat.{ℕ}
-use mathlib.Core.Path.{_≡_}
-use mathlib.Core.List.{List, []}
-use mathlib.Core.Bool.{Bool, true, cond, _&&_}
-use lib.ListN.{length, getD}
+use mathlib.Core.List.{List}
+use mathlib.Core.Bool.{Bool, cond, _&&_}
+use lib.ListN.{length}
 use lib.Dec.{eqb}
-use Rattle.log_quotes.specs.Quotes.{fields, sound, fieldCount}
+use Rattle.log_quotes.specs.Quotes.{fields, sound}
 use Rattle.log_number.specs.Number.{number, temperature}
 use Rattle.log_entry.specs.Entry.{inRanges, reported}
 use Rattle.log_columns.specs.declared.Columns.{Columns}
 use Rattle.log_columns.specs.Columns.{headerOk, columnsOf}
-use Rattle.meter_log.specs.declared.Values.{Values}
+use Rattle.log_values.specs.Values.{under}
 use Rattle.meter_log.specs.declared.Header.{Header}
 use Rattle.meter_log.specs.declared.Header.the-variants as H
 use Rattle.meter_log.specs.declared.Refusal.{Refusal}
@@ -37,10 +36,7 @@ readingOf cell flow last = cond (inRanges cell flow last) (R.Made (reported cell
 unfoldable pub lineOk : Columns → List ℕ → Bool
 lineOk c l = sound l && eqb (length (fields l)) (c .count)
 
--- the field under a column
-abbrev pub under : List ℕ → ℕ → List ℕ
-under l k = getD (fields l) k []
-
+-- the values under the columns, of a line that passes
 unfoldable pub readColumns : Columns → List ℕ → Reading
 readColumns c l =
     cond (lineOk c l) (readingOf (number (under l (c .cell))) (number (under l (c .flow))) (temperature (under l (c .temp)))) (R.Refused N.Fields)
@@ -49,10 +45,3 @@ readColumns c l =
 unfoldable pub readLine : Header → List ℕ → Reading
 readLine H.Refused l = R.Refused N.Header
 readLine (H.Named c) l = readColumns c l
-
--- ---- what the reader's walk finds of a line under columns c, for its loop
-pub record Found (c : Columns) (l : List ℕ) (r : Values) : Type 0 where
-  pub fields : r .fields ≡ fieldCount l
-  pub cell : sound l ≡ true → r .cell ≡ number (under l (c .cell))
-  pub flow : sound l ≡ true → r .flow ≡ number (under l (c .flow))
-  pub last : sound l ≡ true → r .last ≡ temperature (under l (c .temp))

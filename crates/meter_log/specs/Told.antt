@@ -7,11 +7,12 @@ use Rattle.log_number.specs.Number.{number, temperature}
 use Rattle.log_entry.specs.Entry.{inRanges, reported}
 use Rattle.log_columns.specs.declared.Columns.{Columns}
 use Rattle.log_columns.specs.Columns.{headerOk, columnsOf}
+use Rattle.log_values.specs.Values.{under}
 use Rattle.meter_log.specs.declared.Header.{Header}
 use Rattle.meter_log.specs.declared.Header.the-variants as H
 use Rattle.meter_log.specs.declared.Reading.{Reading}
 use Rattle.meter_log.specs.declared.Reading.the-variants as R
-use Rattle.meter_log.specs.Reading.{refusalNo, lineOk, under}
+use Rattle.meter_log.specs.Reading.{refusalNo, lineOk}
 
 -- the columns that a first line names, the entry that a later one becomes, the number of a check that one does not pass
 pub data Told : Type 0 where

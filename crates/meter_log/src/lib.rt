@@ -2,7 +2,7 @@
 // line feed; a line `s` is one that is cut already.
 ghost use mathlib.Core.Path.{_≡_};
 ghost use Rattle.log_lines.specs.Lines.{firstLine};
-ghost use Rattle.meter_log.specs.Reading.{refusalNo, headerOf, readingOf, Found, readColumns, readLine};
+ghost use Rattle.meter_log.specs.Reading.{refusalNo, headerOf, readingOf, readColumns, readLine};
 ghost use Rattle.meter_log.specs.Told.{headerTold, readingTold, firstTold, lineTold};
 use log_columns::Columns;
 use operation::Operation;
@@ -46,55 +46,11 @@ fn reading_of(cell: u32, flow: u32, last: u32) -> Reading
     }
 }
 
-// What a walk over the fields of a line finds: how many there are, 0 where the line is unsound, and the three values.
-struct Values {
-    fields: usize,
-    cell: u32,
-    flow: u32,
-    last: u32,
-}
-
-// The values of the line `s` under these columns, in one walk.
-fn values_in(c: Columns, s: &[u8]) -> Values
-    ensures { λ r. ⌜ Found c (now (s .entry)) r ⌝ }
-{
-    let mut a = 0;
-    let mut n = 0;
-    let mut cell: u32 = 1000;
-    let mut flow: u32 = 1000;
-    let mut last: u32 = 1000;
-    loop {
-        let f = log_quotes::field_end(s, a);
-        let e = f.end;
-        if !f.sound {
-            return Values {
-                fields: 0,
-                cell,
-                flow,
-                last,
-            };
-        }
-        cell = log_number::number_at(n == c.cell, &s[a..e], cell);
-        flow = log_number::number_at(n == c.flow, &s[a..e], flow);
-        last = log_number::temperature_at(n == c.temp, &s[a..e], last);
-        if e == s.len() {
-            return Values {
-                fields: n + 1,
-                cell,
-                flow,
-                last,
-            };
-        }
-        a = e + 1;
-        n += 1;
-    }
-}
-
 // What the line `s` comes to under these columns.
 fn read_columns(c: Columns, s: &[u8]) -> Reading
     ensures { λ r. ⌜ r ≡ readColumns c (now (s .entry)) ⌝ }
 {
-    let v = values_in(c, s);
+    let v = log_values::values_in(c, s);
     if (v.fields != 0) & (v.fields == c.count) {
         return reading_of(v.cell, v.flow, v.last);
     }

@@ -8,13 +8,16 @@ use lib.ListN.{set, replicate}
 use borrow.Author.Tests.{not-true}
 use Rattle.slices.specs.Bytes.{all, same}
 use Rattle.text.specs.Text.{onFirst, cut, numberOf, horner}
-use Rattle.log_fields.specs.Lines.{lessReturn, pieceLines, lines}
-use Rattle.log_fields.specs.Quotes.{start, byMark, move, mayEnd, soundFrom, inFirst, split, sound, fields}
-use Rattle.log_fields.specs.Names.{times, column}
+use Rattle.log_lines.specs.Lines.{lessReturn, pieceLines, lines}
+use Rattle.log_quotes.specs.Quotes.{start, byMark, move, mayEnd, soundFrom, inFirst, split, sound, fields}
+use Rattle.log_names.specs.Names.{times, column}
 use Rattle.meter_log.specs.declared.Refusal.the-variants as N
 use Rattle.meter_log.specs.declared.Reading.{Reading}
 use Rattle.meter_log.specs.declared.Reading.the-variants as R
-use Rattle.meter_log.specs.Reading.{cellName, flowName, tempName, headerOk, columnsOf, headerOf, number, warm, cold, temperature, reported}
+use Rattle.log_number.specs.Number.{number, warm, cold, temperature}
+use Rattle.log_entry.specs.Entry.{reported}
+use Rattle.log_columns.specs.Columns.{cellName, flowName, tempName, headerOk, columnsOf}
+use Rattle.meter_log.specs.Reading.{headerOf}
 use Rattle.meter_log.specs.Reading.{readingOf, lineOk, readColumns, readLine}
 use Rattle.meter_log.specs.Log.{readAll, readLines, readLog}
 use Rattle.meter_log_laws.specs.Grammar.{Field}

@@ -12,9 +12,12 @@ use borrow.Author.Tests.{eqb-true}
 use Rattle.slices.specs.Bytes.{same}
 use Rattle.slices.proofs.Laws.{and-yes}
 use Rattle.text.proofs.Laws.{either}
-use Rattle.log_fields.specs.Quotes.{fields, sound}
-use Rattle.log_fields.specs.Names.{times, column}
-use Rattle.meter_log.specs.Reading.{cellName, flowName, tempName, once, headerOk, columnsOf, headerOf, lineOk, under, readColumns, readLine}
+use Rattle.log_quotes.specs.Quotes.{fields, sound}
+use Rattle.log_names.specs.Names.{times, column}
+use Rattle.log_columns.proofs.Laws.{head-sound}
+use Rattle.log_columns.specs.Columns.{cellName, flowName, tempName, once, headerOk, columnsOf}
+use Rattle.log_values.specs.Values.{under}
+use Rattle.meter_log.specs.Reading.{headerOf, lineOk, readColumns, readLine}
 use Rattle.meter_log.specs.Log.{readAll}
 use Rattle.meter_log_laws.specs.Added.{insertAt, addAt, noReturn}
 use Rattle.meter_log_laws.specs.Grammar.{Field}
@@ -74,13 +77,6 @@ module _ (k : ℕ) {name : List ℕ} (o : Other name) (h : List ℕ) where
       rw
       (add-sound name h (field-clean (o .field)) k, once-same cellName (o .not-cell) e, once-same flowName (o .not-flow) e, once-same tempName (o .not-temp) e))
       (λ e. rw (add-sound name h (field-clean (o .field)) k, e))
-
-head-sound : (h : List ℕ) → headerOk h ≡ true → sound h ≡ true
-unfolding headerOk
-head-sound h e =
-    let a = and-yes (sound h && once cellName h && once flowName h) (once tempName h) e in
-    let b = and-yes (sound h && once cellName h) (once flowName h) (a .0) in
-    and-yes (sound h) (once cellName h) (b .0) .0
 
 -- ---- and a later one
 module _ (k : ℕ) {name : List ℕ} (o : Other name) (h : List ℕ) (s : sound h ≡ true) {f : List ℕ} (l : List ℕ) (p : Field f) where

@@ -5,12 +5,13 @@ use mathlib.Core.List.{List, [], _∷_, _++_, append-nil}
 use mathlib.Core.Bool.{Bool, true, false, not, _&&_, and-false, true≢false}
 use lib.Dec.{eqb}
 use borrow.Author.Tests.{eqb-true, not-true}
-use Rattle.log_fields.specs.Quotes.{Quoting, start, plain, inside, closed, broken, byMark, move, nextQuoting, mayEnd, separates, inFirst, split, fields, soundFrom, sound}
+use Rattle.log_quotes.specs.Quotes.{Quoting, start, plain, inside, closed, broken, byMark, move, nextQuoting, mayEnd, separates, inFirst, split, fields, soundFrom, sound}
 use Rattle.meter_log_laws.specs.Added.{join, commaEach}
 use Rattle.meter_log_laws.specs.Grammar.{noMarks, Doubled, none, other, twice, Field, bare, quoted, AllFields, one, more}
 use Rattle.slices.proofs.Laws.{and-yes}
 use Rattle.text.proofs.Laws.{either}
-use Rattle.meter_log_laws.proofs.Put.{clean, clean-no, clean-rest, clean-split, clean-alone, clean-sound, clean-true, join-split, sep-comma, sep-start}
+use Rattle.log_quotes.proofs.Walk.{sep-comma, sep-start}
+use Rattle.meter_log_laws.proofs.Put.{clean, clean-no, clean-rest, clean-split, clean-alone, clean-sound, clean-true, join-split}
 
 -- ---- one field
 module _ (b : ℕ) (f : List ℕ) (n : noMarks (b ∷ f) ≡ true) where

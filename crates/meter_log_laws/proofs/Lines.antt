@@ -12,7 +12,7 @@ use Rattle.slices.proofs.Laws.{and-yes}
 use Rattle.text.specs.Text.{placeOf, onFirst, cut}
 use Rattle.text.proofs.Laws.{either}
 use Rattle.text.proofs.Cuts.{cut-none, cut-some, place-most}
-use Rattle.log_fields.specs.Lines.{lessReturn, firstLine, nextLine, pieceLines, lines}
+use Rattle.log_lines.specs.Lines.{lessReturn, firstLine, nextLine, pieceLines, lines}
 use Rattle.meter_log_laws.specs.Added.{glue, noFeed}
 use Rattle.meter_log_laws.proofs.Put.{Some, some}
 

@@ -9,8 +9,8 @@ use lib.Dec.{eqb}
 use Rattle.slices.specs.Bytes.{all}
 use Rattle.slices.proofs.Laws.{and-yes, all-append, all-drop}
 use Rattle.text.specs.Text.{cut, nonEmpty}
-use Rattle.log_fields.specs.Lines.{lessReturn, firstLine, pieceLines, lines}
-use Rattle.meter_log.specs.Reading.{headerOk}
+use Rattle.log_lines.specs.Lines.{lessReturn, firstLine, pieceLines, lines}
+use Rattle.log_columns.specs.Columns.{headerOk}
 use Rattle.meter_log.specs.Log.{readLines, readLog}
 use Rattle.meter_log_laws.specs.Grammar.{Field}
 use Rattle.meter_log_laws.specs.Added.{addAt, returnOf, addPieces, glue, addText, noFeed, Column}

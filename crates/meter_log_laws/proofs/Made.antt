@@ -17,12 +17,16 @@ use Rattle.text.proofs.Laws.{either}
 use Rattle.operation.specs.declared.Operation.{Operation}
 use Rattle.operation.specs.Operation.{signed, tempOk, lastByteOk, allowed}
 use Rattle.operation.proofs.Signed.{signed-low, signed-high}
-use Rattle.meter_log.specs.declared.Columns.{Columns}
+use Rattle.log_columns.specs.declared.Columns.{Columns}
 use Rattle.meter_log.specs.declared.Header.{Header}
 use Rattle.meter_log.specs.declared.Header.the-variants as H
 use Rattle.meter_log.specs.declared.Refusal.the-variants as N
 use Rattle.meter_log.specs.declared.Reading.the-variants as R
-use Rattle.meter_log.specs.Reading.{number, warm, cold, temperature, reported, readingOf, lineOk, under, readColumns, readLine}
+use Rattle.log_number.specs.Number.{number, warm, cold, temperature}
+use Rattle.log_entry.specs.Entry.{inRanges, reported}
+use Rattle.log_entry.proofs.Laws.{three-yes}
+use Rattle.log_values.specs.Values.{under}
+use Rattle.meter_log.specs.Reading.{readingOf, lineOk, readColumns, readLine}
 
 -- ---- numbers
 digit-most : (b : ℕ) (s : List ℕ) → all isDigit (b ∷ s) ≡ true → (b - 48 ≤ 9) × (all isDigit s ≡ true)
@@ -160,12 +164,11 @@ record Reads (x y z : ℕ) (e : Operation) : Type 0 where
 reads : (x y z : ℕ) (e : Operation) → readingOf x y z ≡ R.Made e → Reads x y z e
 unfolding readingOf
 reads x y z e q =
-    either (leb x 15 && leb y 255 && leb z 255)
+    either (inRanges x y z)
     (λ t.
-    let a = and-yes (leb x 15 && leb y 255) (leb z 255) t in
-    let b = and-yes (leb x 15) (leb y 255) (a .0) in
+    let b = three-yes x y z t in
     let g : R.Made (reported x y z) ≡ R.Made e = rw t at q in
-    record { low = leb-true x 15 (b .0); middle = leb-true y 255 (b .1); high = leb-true z 255 (a .1); whole = cc g })
+    record { low = b .0; middle = b .1; high = b .2; whole = cc g })
     (λ t. absurd (let g : R.Refused N.Number ≡ R.Made e = rw t at q in let w : _≡_ {A = ℕ} 0 1 = cc in omega arith))
 
 allowed-in : (x y z : ℕ) → x ≤ 15 → tempOk z ≡ true → allowed 5 x y z ≡ true

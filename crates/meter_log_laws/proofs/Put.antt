@@ -4,11 +4,12 @@ use mathlib.Core.Path.{_≡_, refl, sym, ap, _∙_}
 use mathlib.Core.List.{List, [], _∷_, _++_, append-nil}
 use mathlib.Core.Bool.{Bool, true, false, cond, not, _&&_, true≢false}
 use lib.Dec.{eqb}
-use borrow.Author.Tests.{eqb-true, not-true}
-use Rattle.log_fields.specs.Quotes.{Quoting, start, plain, inside, closed, broken, byMark, move, nextQuoting, mayEnd, separates, inFirst, split, fields, soundFrom, sound}
+use borrow.Author.Tests.{not-true}
+use Rattle.log_quotes.specs.Quotes.{Quoting, start, plain, inside, closed, broken, byMark, move, nextQuoting, mayEnd, separates, inFirst, split, fields, soundFrom, sound}
 use Rattle.meter_log_laws.specs.Added.{insertAt, commaEach, join, addAt}
 use Rattle.slices.proofs.Laws.{and-yes}
 use Rattle.text.proofs.Laws.{either}
+use Rattle.log_quotes.proofs.Walk.{sep-comma, comma-start, sep-start}
 
 -- ---- the first field
 -- one field or more
@@ -42,10 +43,6 @@ insert-some (suc k) f (g ∷ fs) some = some
 pub each-join : (fs : List (List ℕ)) → Some fs → commaEach fs ≡ 44 ∷ join fs
 unfolding commaEach join
 each-join (f ∷ fs) some = refl
-
--- a byte that separates is a comma, where a field may end
-pub sep-comma : (q : Quoting) (b : ℕ) → separates q b ≡ true → (b ≡ 44) × (mayEnd q ≡ true)
-sep-comma q b e = let h = and-yes (eqb b 44) (mayEnd q) e in (eqb-true b 44 (h .0), h .1)
 
 -- joined again, the fields are the line
 pub join-split : (q : Quoting) (l : List ℕ) → join (split q l) ≡ l
@@ -84,15 +81,6 @@ pub clean-alone : (q : Quoting) (f : List ℕ) → clean q f ≡ true → split 
 unfolding split clean inFirst
 clean-alone q [] c = refl
 clean-alone q (b ∷ f) c = rw (clean-no q b f c, clean-alone (nextQuoting q b) f (clean-rest q b f c))
-
--- a comma where a field may end starts the next
-comma-start : (q : Quoting) → mayEnd q ≡ true → move q false true ≡ start
-unfolding move byMark mayEnd
-comma-start start e = refl
-comma-start plain e = refl
-comma-start inside e = absurd (true≢false (sym e))
-comma-start closed e = refl
-comma-start broken e = absurd (true≢false (sym e))
 
 -- before a comma and more, the line is sound as what comes after
 pub clean-sound : (q : Quoting) (f l : List ℕ) → clean q f ≡ true → soundFrom q (f ++ 44 ∷ l) ≡ soundFrom start l
@@ -211,10 +199,6 @@ put zero f q [] = 44 ∷ f
 put (suc k) f q [] = []
 put zero f q (b ∷ l) = b ∷ cond (separates q b) (f ++ 44 ∷ l) (put zero f (nextQuoting q b) l)
 put (suc k) f q (b ∷ l) = b ∷ cond (separates q b) (put k f start l) (put (suc k) f (nextQuoting q b) l)
-
--- after a separator a field starts
-pub sep-start : (q : Quoting) (b : ℕ) → separates q b ≡ true → nextQuoting q b ≡ start
-sep-start q b e = let h = sep-comma q b e in rw (h .0) (comma-start q (h .1))
 
 in-join : (k : ℕ) (f : List ℕ) (b : ℕ) (fs : List (List ℕ)) → Some fs → join (insertAt (suc k) f (inFirst b fs)) ≡ b ∷ join (insertAt (suc k) f fs)
 in-join k f b fs s = ap join (insert-in k f b fs s) ∙ join-in b (insertAt (suc k) f fs) (insert-some (suc k) f fs s)

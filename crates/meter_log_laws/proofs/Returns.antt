@@ -8,7 +8,7 @@ use borrow.Author.Tests.{eqb-true, not-true}
 use Rattle.slices.specs.Bytes.{all}
 use Rattle.slices.proofs.Laws.{and-yes}
 use Rattle.text.proofs.Laws.{either}
-use Rattle.log_fields.specs.Lines.{lessReturn}
+use Rattle.log_lines.specs.Lines.{lessReturn}
 use Rattle.meter_log_laws.specs.Grammar.{noMarks, Field, bare, quoted}
 use Rattle.meter_log_laws.specs.Added.{addAt, returnOf, noReturn}
 use Rattle.meter_log_laws.proofs.Spot.{Spot, nowhere, before, after, add-spot}

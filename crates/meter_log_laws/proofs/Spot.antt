@@ -2,7 +2,7 @@
 use Prim.Native.Nat.{ℕ, zero, suc}
 use mathlib.Core.Path.{_≡_, refl, sym, subst}
 use mathlib.Core.List.{List, [], _∷_, _++_, append-nil, append-assoc}
-use Rattle.log_fields.specs.Quotes.{start, fields}
+use Rattle.log_quotes.specs.Quotes.{start, fields}
 use Rattle.meter_log_laws.specs.Added.{insertAt, commaEach, join, addAt}
 use Rattle.meter_log_laws.proofs.Put.{Some, some, split-some, each-join, join-split}
 

@@ -7,9 +7,9 @@ use lib.Dec.{eqb}
 use lib.ListN.{length, drop}
 use Rattle.slices.specs.Bytes.{all, same}
 use Rattle.text.specs.Text.{cut, nonEmpty}
-use Rattle.log_fields.specs.Lines.{lessReturn}
-use Rattle.log_fields.specs.Quotes.{fields}
-use Rattle.meter_log.specs.Reading.{cellName, flowName, tempName}
+use Rattle.log_lines.specs.Lines.{lessReturn}
+use Rattle.log_quotes.specs.Quotes.{fields}
+use Rattle.log_columns.specs.Columns.{cellName, flowName, tempName}
 use Rattle.meter_log_laws.specs.Grammar.{Field}
 
 -- a list with an element more, the new one being number k; a list of fewer than k is left as it is

@@ -5,7 +5,8 @@ use mathlib.Core.Path.{_≡_, refl, sym, _∙_}
 use mathlib.Core.List.{List}
 use mathlib.Core.Bool.{true}
 use Rattle.text.proofs.Laws.{either}
-use Rattle.meter_log.specs.Reading.{headerOk, headerOf}
+use Rattle.log_columns.specs.Columns.{headerOk}
+use Rattle.meter_log.specs.Reading.{headerOf}
 use Rattle.meter_log_laws.specs.Added.{addText, Column}
 use Rattle.meter_log_laws.proofs.Column.{Other, Adds, none, more, head-same, all-same}
 use Rattle.meter_log_laws.proofs.Log.{lines-added}

@@ -5,10 +5,12 @@ use mathlib.Core.List.{List, [], _∷_, _++_}
 use Rattle.slices.specs.Bytes.{all, same}
 use Rattle.text.specs.Text.{onFirst, cut, numberOf, horner, digits, decimalOf}
 use Rattle.operation.specs.Operation.{signed}
-use Rattle.log_fields.specs.Lines.{lessReturn}
-use Rattle.log_fields.specs.Quotes.{byMark, move, mayEnd, soundFrom, inFirst, split}
-use Rattle.log_fields.specs.Names.{times, column}
-use Rattle.meter_log.specs.Reading.{cellName, flowName, tempName, headerOk, columnsOf, headerOf, number, warm, cold, temperature}
+use Rattle.log_lines.specs.Lines.{lessReturn}
+use Rattle.log_quotes.specs.Quotes.{byMark, move, mayEnd, soundFrom, inFirst, split}
+use Rattle.log_names.specs.Names.{times, column}
+use Rattle.log_number.specs.Number.{number, warm, cold, temperature}
+use Rattle.log_columns.specs.Columns.{cellName, flowName, tempName, headerOk, columnsOf}
+use Rattle.meter_log.specs.Reading.{headerOf}
 use Rattle.meter_log.specs.Reading.{readingOf, lineOk, readColumns, readLine}
 use Rattle.meter_log_told.specs.Told.{tellHeader, tellReading, tellLine, tellWhole, tellLast}
 use Rattle.meter_log_put.specs.Text.{opText, toldText, toldBytes}

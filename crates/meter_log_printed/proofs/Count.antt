@@ -15,7 +15,7 @@ use Rattle.text.proofs.Laws.{either}
 use Rattle.text_put.specs.Datum.{datum, signedDatum}
 use Rattle.operation.specs.declared.Operation.{Operation}
 use Rattle.operation.specs.Operation.{signed}
-use Rattle.log_fields.specs.Lines.{pieceLines, lines}
+use Rattle.log_lines.specs.Lines.{pieceLines, lines}
 use Rattle.meter_log.specs.Reading.{refusalNo}
 use Rattle.meter_log_laws.specs.Added.{glue, noFeed}
 use Rattle.meter_log_laws.proofs.Put.{Some, some}

@@ -8,7 +8,7 @@ use lib.ListN.{getD}
 use borrow.Author.Tests.{ltb-true}
 use Rattle.text.specs.Text.{cut}
 use Rattle.text.proofs.Laws.{either}
-use Rattle.log_fields.specs.Lines.{pieceLines, lines}
+use Rattle.log_lines.specs.Lines.{pieceLines, lines}
 use Rattle.meter_log.specs.declared.Header.{Header}
 use Rattle.meter_log_told.specs.declared.Log.{Log}
 use Rattle.meter_log_told.specs.declared.Log.the-variants as L

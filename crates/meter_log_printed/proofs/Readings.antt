@@ -6,7 +6,7 @@ use mathlib.Core.Bool.{true, false, not}
 use borrow.Author.Tests.{not-true}
 use Rattle.slices.proofs.Laws.{and-yes}
 use Rattle.text.specs.Text.{cut}
-use Rattle.log_fields.specs.Lines.{lessReturn, pieceLines}
+use Rattle.log_lines.specs.Lines.{lessReturn, pieceLines}
 use Rattle.meter_log.specs.declared.Header.{Header}
 use Rattle.meter_log.specs.Reading.{headerOf, readLine}
 use Rattle.meter_log.specs.Log.{readAll}

@@ -3,7 +3,7 @@ use Prim.Native.Nat.{ℕ, _+_}
 use mathlib.Core.List.{List, [], _∷_, _++_}
 use mathlib.Core.Bool.{Bool, true, not, _&&_}
 use Rattle.text.specs.Text.{cut}
-use Rattle.log_fields.specs.Lines.{lines}
+use Rattle.log_lines.specs.Lines.{lines}
 use Rattle.meter_log.specs.declared.Reading.{Reading}
 use Rattle.meter_log.specs.Reading.{headerOf}
 use Rattle.meter_log.specs.Log.{readAll}

@@ -4,7 +4,7 @@ use mathlib.Core.List.{List}
 use mathlib.Core.Bool.{Bool, cond}
 use lib.ListN.{length}
 use lib.Dec.{ltb}
-use Rattle.log_fields.specs.Lines.{lessReturn}
+use Rattle.log_lines.specs.Lines.{lessReturn}
 use Rattle.meter_log.specs.declared.Header.{Header}
 use Rattle.meter_log.specs.declared.Header.the-variants as H
 use Rattle.meter_log.specs.declared.Refusal.the-variants as N

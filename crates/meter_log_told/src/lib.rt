@@ -110,7 +110,7 @@ pub fn tell_whole(log: Log, s: &[u8]) -> LogStep
     if LINE_LIMIT < s.len() {
         return tell_long(log);
     }
-    tell_line(log, log_fields::less_return(s))
+    tell_line(log, log_lines::less_return(s))
 }
 
 // A line of which `s` are the bytes before the end of the input.

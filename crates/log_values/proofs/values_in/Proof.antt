@@ -2,9 +2,9 @@ use Prim.Native.Nat.{_-_}
 use lib.ListN.{length}
 use borrow.Author.Tests.{not-true, not-false}
 use borrow.Author.Needs.{needs}
-use Rattle.meter_log.proofs.Laws.{Walked, walked-none, walked-unsound, walked-last, walked-next}
-use Rattle.meter_log.proofs.values_in.Statement.{statement}
-use Rattle.meter_log.proofs.values_in.Tie as tie
+use Rattle.log_values.proofs.Laws.{Walked, walked-none, walked-unsound, walked-last, walked-next}
+use Rattle.log_values.proofs.values_in.Statement.{statement}
+use Rattle.log_values.proofs.values_in.Tie as tie
 
 abbrev Inv-loop : tie.InvT-loop
 Inv-loop c s a₀ n₀ cell₀ flow₀ last₀ a n cell flow last = Walked c s a n cell flow last
