@@ -1,4 +1,5 @@
-// The entry that a line of the meters' log becomes (document 02, Q-5). Definitions: specs/Entry.antt.
+// The entry that a line of the meters' log becomes (document 02, Q-5). Definitions: specs/Entry.antt. An inner step of `meter_log`:
+// `entry_of` asks that the values are in their ranges.
 ghost use mathlib.Core.Path.{_≡_};
 ghost use mathlib.Core.Bool.{true};
 ghost use Rattle.log_entry.specs.Entry.{inRanges, reported};

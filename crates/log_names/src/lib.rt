@@ -1,6 +1,6 @@
-// A name among the fields of a line (document 02, Q-5). Definitions: specs/Names.antt. An inner step: it takes the line `s`, which is
-// cut already, as it is; of an unsound line the last field is all that stands from an unsound quote's field on. Whoever calls asks
-// for soundness (`log_fields::count_in`).
+// A name among the fields of a line (document 02, Q-5). Definitions: specs/Names.antt. An inner step of `log_columns`: the line `s` is cut
+// already and is taken as it is, sound or not (of an unsound line all from its first unsound field on is the last field). The caller
+// asks for soundness beside it.
 ghost use mathlib.Core.Path.{_≡_};
 ghost use mathlib.Core.Bool.{cond};
 ghost use Rattle.slices.specs.Bytes.{same};

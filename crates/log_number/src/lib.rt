@@ -1,4 +1,5 @@
-// Numbers and temperatures in the fields of the meters' log (document 02, Q-5). Definitions: specs/Number.antt.
+// Numbers and temperatures in the fields of the meters' log (document 02, Q-5). Definitions: specs/Number.antt. An inner step of
+// `log_values`: a field's bytes are taken as they are.
 ghost use mathlib.Core.Path.{_≡_};
 ghost use mathlib.Core.Bool.{cond};
 ghost use Rattle.log_number.specs.Number.{number, warm, cold, temperature};
