@@ -257,13 +257,13 @@ static int cells(int i) {
 
 int main(int argc, char **argv) {
     const char *what = argc > 2 ? argv[2] : "";
-    int i = argc > 3 ? atoi(argv[3]) - 1 : -1;
-    if (argc < 3 || chdir(argv[1]) != 0) die("folder");
+    int i = argc > 3 ? atoi(argv[3]) - 1 : -1, is_client = 0 <= i && i < CLIENTS;
+    if (argc > 1 && chdir(argv[1]) != 0) die(argv[1]);
     int started = access("started", F_OK) == 0;
-    if (started && strcmp(what, "server") == 0) return server_turn();
-    if (started && strcmp(what, "client") == 0 && 0 <= i && i < CLIENTS) return client_turn(i);
-    if (started && strcmp(what, "cells") == 0 && 0 <= i && i < CLIENTS) return cells(i);
     if (!started && strcmp(what, "start") == 0) return start();
-    fprintf(stderr, "durable FOLDER start (once), client 1, client 2, server, cells 1, cells 2\n");
+    if (started && strcmp(what, "server") == 0) return server_turn();
+    if (started && strcmp(what, "client") == 0 && is_client) return client_turn(i);
+    if (started && strcmp(what, "cells") == 0 && is_client) return cells(i);
+    fprintf(stderr, "durable FOLDER %s\n", started ? "client 1, client 2, server, cells 1 or cells 2" : "start, once");
     return 2;
 }

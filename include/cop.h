@@ -100,7 +100,7 @@ enum {
     COP_TAG = 32,
     COP_INPUT_MOST = 65535, /* of an input or a key, for digest and tag */
     COP_COUNT_MOST = 1000000, /* own counts and sequence numbers end here */
-    COP_PENDING_MOST = 32   /* sequence numbers that wait at the server; at a client those held past the last confirmed */
+    COP_PENDING_MOST = 32   /* sequence numbers that wait at the server; at a client, held past the last confirmed */
 };
 
 /* kinds of operations; the last two are about the cell's temperature */
