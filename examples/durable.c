@@ -64,7 +64,7 @@ static void die(const char *what) {
 
 /* "client-1" for "client" and 0 */
 static const char *name(const char *what, int i) {
-    static char text[16];
+    static char text[24];
     snprintf(text, sizeof text, "%s-%d", what, i + 1);
     return text;
 }
@@ -85,7 +85,7 @@ static void sync_close(int fd) {
 
 /* Replaces a record. Killed in here, the record is the old or the new one; after it, it is the new one for good. */
 static int save(const char *record, const void *bytes, size_t n) {
-    char fresh[24];
+    char fresh[32];
     snprintf(fresh, sizeof fresh, "%s.new", record);
     int fd = open(fresh, O_WRONLY | O_CREAT | O_TRUNC, 0600);
     if (fd < 0) die(fresh);
@@ -99,7 +99,7 @@ static int save(const char *record, const void *bytes, size_t n) {
 /* Reads a record that one process at a time goes on from; the lock goes with the process. A save that was killed may
    have left it in place and not yet for good: so it is synced too. */
 static void load(const char *record, void *bytes, size_t n) {
-    char file[24];
+    char file[32];
     snprintf(file, sizeof file, "%s.lock", record);
     int lock = open(file, O_WRONLY | O_CREAT, 0600), fd = open(record, O_RDONLY);
     if (lock < 0 || lockf(lock, F_TLOCK, 0) != 0) die(file);

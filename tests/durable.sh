@@ -39,6 +39,7 @@ END
 
 build durable-killed examples/durable.c
 "$to/durable-killed" "$folder" "${1:-1000}"
+python3 tests/durable_kills.py "$to/durable"
 
 # the outcome is not kept: only the run that made the call shows it
 wrong outcome_not_kept 'a call was never shown' \
