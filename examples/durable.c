@@ -101,8 +101,9 @@ static int save(const char *record, const void *bytes, size_t n) {
 static void load(const char *record, void *bytes, size_t n) {
     char file[32];
     snprintf(file, sizeof file, "%s.lock", record);
-    int lock = open(file, O_WRONLY | O_CREAT, 0600), fd = open(record, O_RDONLY);
+    int lock = open(file, O_WRONLY | O_CREAT, 0600);
     if (lock < 0 || lockf(lock, F_TLOCK, 0) != 0) die(file);
+    int fd = open(record, O_RDONLY); /* once it is locked: else it might be one that is being replaced */
     if (fd < 0 || read(fd, bytes, n) != (ssize_t)n) die(record);
     sync_close(fd);
     sync_close(open(".", O_RDONLY));
