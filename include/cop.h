@@ -41,7 +41,8 @@
    Drop a record's bytes only once the line has them for good: a file that is fsynced, or, over a network, the
    receiver's own record. There the receiver says, at each connection, the offset in its record, and the sender goes
    on from it; it keeps what is past it. (A RE tells a client that the server has all that the client wrote up to
-   that IN, so that it keeps at most a CO and an IN.) Let one process at a time work on a record: lock it.
+   that IN, so that it keeps at most a CO and an IN.) Let one process at a time work on a record: lock it first,
+   then read it.
    Never open a client number anew under the same keys, and never go on from a backup or a copy: what a lost or
    doubled laptop might still have sent would then be sent again with other contents. Where the record is lost, that
    number is out of use.
