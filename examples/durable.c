@@ -1,6 +1,7 @@
 /* Two clients and a server that may be killed at any moment, power cuts included, and go on from their records: the
-   recipe of include/cop.h, "Keeping the state". A file stands in for each line, with each byte at its offset. A run
-   does what can be done now and ends; a program that stays would wait for its lines instead.
+   recipe of include/cop.h, "Keeping the state". A file stands in for each line, with each byte at its offset. (A file
+   system that after a power cut may show bytes that nobody wrote makes no lines: a connection brings none.) A run does
+   what can be done now and ends; a program that stays would wait for its lines instead.
 
        durable FOLDER start       makes keys, records and empty lines; by hand, once
        durable FOLDER client 1    client 1's turn (or 2's)
