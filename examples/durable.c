@@ -1,6 +1,7 @@
 /* Two clients and a server that may be killed at any moment, power cuts included, and go on from their records: the
-   recipe of include/cop.h, "Keeping the state". A file stands in for each line, with each byte at its offset. A run
-   does what can be done now and ends; a program that stays would wait for its lines instead.
+   recipe of include/cop.h, "Keeping the state". A file stands in for each line, with each byte at its offset. (A file
+   system that after a power cut may show bytes that nobody wrote makes no lines: a connection brings none.) A run does
+   what can be done now and ends; a program that stays would wait for its lines instead.
 
        durable FOLDER start       makes keys, records and empty lines; by hand, once
        durable FOLDER client 1    client 1's turn (or 2's)
@@ -64,7 +65,7 @@ static void die(const char *what) {
 
 /* "client-1" for "client" and 0 */
 static const char *name(const char *what, int i) {
-    static char text[16];
+    static char text[24];
     snprintf(text, sizeof text, "%s-%d", what, i + 1);
     return text;
 }
@@ -85,7 +86,7 @@ static void sync_close(int fd) {
 
 /* Replaces a record. Killed in here, the record is the old or the new one; after it, it is the new one for good. */
 static int save(const char *record, const void *bytes, size_t n) {
-    char fresh[24];
+    char fresh[32];
     snprintf(fresh, sizeof fresh, "%s.new", record);
     int fd = open(fresh, O_WRONLY | O_CREAT | O_TRUNC, 0600);
     if (fd < 0) die(fresh);
@@ -99,10 +100,11 @@ static int save(const char *record, const void *bytes, size_t n) {
 /* Reads a record that one process at a time goes on from; the lock goes with the process. A save that was killed may
    have left it in place and not yet for good: so it is synced too. */
 static void load(const char *record, void *bytes, size_t n) {
-    char file[24];
+    char file[32];
     snprintf(file, sizeof file, "%s.lock", record);
-    int lock = open(file, O_WRONLY | O_CREAT, 0600), fd = open(record, O_RDONLY);
+    int lock = open(file, O_WRONLY | O_CREAT, 0600);
     if (lock < 0 || lockf(lock, F_TLOCK, 0) != 0) die(file);
+    int fd = open(record, O_RDONLY); /* once it is locked: else it might be one that is being replaced */
     if (fd < 0 || read(fd, bytes, n) != (ssize_t)n) die(record);
     sync_close(fd);
     sync_close(open(".", O_RDONLY));
@@ -257,13 +259,13 @@ static int cells(int i) {
 
 int main(int argc, char **argv) {
     const char *what = argc > 2 ? argv[2] : "";
-    int i = argc > 3 ? atoi(argv[3]) - 1 : -1;
-    if (argc < 3 || chdir(argv[1]) != 0) die("folder");
+    int i = argc > 3 ? atoi(argv[3]) - 1 : -1, is_client = 0 <= i && i < CLIENTS;
+    if (argc > 1 && chdir(argv[1]) != 0) die(argv[1]);
     int started = access("started", F_OK) == 0;
-    if (started && strcmp(what, "server") == 0) return server_turn();
-    if (started && strcmp(what, "client") == 0 && 0 <= i && i < CLIENTS) return client_turn(i);
-    if (started && strcmp(what, "cells") == 0 && 0 <= i && i < CLIENTS) return cells(i);
     if (!started && strcmp(what, "start") == 0) return start();
-    fprintf(stderr, "durable FOLDER start (once), client 1, client 2, server, cells 1, cells 2\n");
+    if (started && strcmp(what, "server") == 0) return server_turn();
+    if (started && strcmp(what, "client") == 0 && is_client) return client_turn(i);
+    if (started && strcmp(what, "cells") == 0 && is_client) return cells(i);
+    fprintf(stderr, "durable FOLDER %s\n", started ? "client 1, client 2, server, cells 1 or cells 2" : "start, once");
     return 2;
 }

@@ -41,7 +41,8 @@
    Drop a record's bytes only once the line has them for good: a file that is fsynced, or, over a network, the
    receiver's own record. There the receiver says, at each connection, the offset in its record, and the sender goes
    on from it; it keeps what is past it. (A RE tells a client that the server has all that the client wrote up to
-   that IN, so that it keeps at most a CO and an IN.) Let one process at a time work on a record: lock it.
+   that IN, so that it keeps at most a CO and an IN.) Let one process at a time work on a record: lock it first,
+   then read it.
    Never open a client number anew under the same keys, and never go on from a backup or a copy: what a lost or
    doubled laptop might still have sent would then be sent again with other contents. Where the record is lost, that
    number is out of use.
@@ -100,7 +101,7 @@ enum {
     COP_TAG = 32,
     COP_INPUT_MOST = 65535, /* of an input or a key, for digest and tag */
     COP_COUNT_MOST = 1000000, /* own counts and sequence numbers end here */
-    COP_PENDING_MOST = 32   /* sequence numbers that wait at the server; at a client those held past the last confirmed */
+    COP_PENDING_MOST = 32   /* sequence numbers that wait at the server; at a client, held past the last confirmed */
 };
 
 /* kinds of operations; the last two are about the cell's temperature */

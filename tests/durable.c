@@ -3,8 +3,9 @@
 
    A point is just before a file is made, written, synced or renamed, or a line is shown; and within a write, after one,
    two, half and all but one of the bytes (half, of a record's). A process that is killed there loses what it had in
-   memory. A power cut, besides, undoes what has been made, written or renamed, by whomever, and not been synced since.
-   The killed process starts again at once, or late, when the others have had two turns.
+   memory. A power cut, besides, undoes what has been made, written or renamed, by whomever, and not been synced since:
+   all of it (that a part of it stays, or that a file has bytes that nobody wrote, is not tried). The killed process
+   starts again at once, or late, when the others have had two turns.
 
    Wrong is: bytes on a line, or a text shown, whose record was not durable; two texts shown under one number, or a
    number never shown; an end with anything but 0 (a halt, a line that stands still, a record that cannot be read); no

@@ -39,16 +39,21 @@ END
 
 build durable-killed examples/durable.c
 "$to/durable-killed" "$folder" "${1:-1000}"
+python3 tests/durable_kills.py "$to/durable"
 
 # the outcome is not kept: only the run that made the call shows it
 wrong outcome_not_kept 'a call was never shown' \
     '        show(&c);' '        static int made; if (made++ || c.calls == 0) show(&c);'
 
-# bytes go to the line's end, and again after a crash if the record still has them
-wrong sent_again 'refused 3' \
-    'write_all(fd, bytes, n, at);' '(void)at; write_all(fd, bytes, n, (uint64_t)lseek(fd, 0, SEEK_END));' \
-    '        show(&c);' '        show(&c); if (c.n) c.n = 0, save(name("client", i), &c, sizeof c);' \
-    '    } while (server_step' '        if (s.n[0] + s.n[1]) memset(s.n, 0, sizeof s.n), save("server", &s, sizeof s);
+# bytes that the line has go to its end once more, if a crash has left them in the record
+wrong sent_again 'refused 3[256]' \
+    'write_all(fd, bytes, n, at);' 'uint64_t end = (uint64_t)lseek(fd, 0, SEEK_END);
+    write_all(fd, bytes, n, end < at + n ? at : end);' \
+    '        show(&c);' '        show(&c);
+        if (c.n) c.at += c.n, c.n = 0, save(name("client", i), &c, sizeof c);' \
+    '    } while (server_step' '        int any = 0;
+        for (int to = 0; to < CLIENTS; to++) any |= s.n[to] > 0, s.at[to] += s.n[to], s.n[to] = 0;
+        if (any) save("server", &s, sizeof s);
     } while (server_step'
 
 # shown, sent, by a client or the server, before the record is durable
