@@ -32,7 +32,7 @@ changed by hand.
 
 An edit is a wrong program: `crates/CRATE/must-fail/NAME.edit` says which line becomes which. The gate applies each by
 itself, and the prover has to refuse it. What it changes: the program; the *contract*, where the proof is a walk by hand
-along the program's steps, so that another program would be another walk, and then the comment says what is true; the
+along the program's steps or the function only calls another, so that another program would be another proof; the
 *definition* that program or theorem is held to; or a theorem's *statement*. Of the last two the end of this page says
 why each makes something false that was proved.
 """
@@ -60,22 +60,32 @@ class Edit:
                 break
             comment.append(line.lstrip("# ").strip())
         self.comment, _, self.why = (x.strip() for x in " ".join(comment).partition("False:"))
-        self.file = next((x[5:].strip() for x in lines if x.startswith("file:")), "")
-        old = next((x[4:].strip() for x in lines if x.startswith("old:")), "")
-        self.changes = self.kind(path.parent.parent, old)
+        # the lines that it changes, each with its file
+        self.lines, file = [], ""
+        for line in lines:
+            if line.startswith("file:"):
+                file = line[5:].strip()
+            elif line.startswith("old:"):
+                self.lines.append((file, line[4:].strip()))
+        self.stale = [old for file, old in self.lines if old not in text_of(path.parent.parent / file)]
+        self.changes = self.kind(path.parent.parent)
 
-    def kind(self, crate, old):
-        if self.file.startswith("specs/"):
+    def kind(self, crate):
+        first = self.lines[0][0]
+        if first.startswith("specs/"):
             return "definition"
-        if self.file.startswith("proofs/"):
+        if first.startswith("proofs/"):
             return "statement"
-        source = crate / self.file
-        clause = False
-        for line in source.read_text(encoding="utf-8").splitlines() if source.exists() else []:
+        inside, clause = set(), False
+        for line in text_of(crate / first).splitlines():
             clause = line.lstrip().startswith("ensures") or clause and line != "{"
-            if old in line:
-                return "contract" if clause else "program"
-        return "program"
+            if not line.startswith("ghost use") and any(file == first and old in line for file, old in self.lines):
+                inside.add(clause)
+        return "contract" if inside == {True} else "program"
+
+
+def text_of(path):
+    return path.read_text(encoding="utf-8") if path.exists() else ""
 
 
 def ticked(text):
@@ -294,6 +304,8 @@ def main():
         there[f"{edit.crate}/{edit.name}"] = edit
         if not edit.comment:
             fail(f"edit {edit.crate}/{edit.name} has no comment")
+        for old in edit.stale:
+            fail(f"edit {edit.crate}/{edit.name}: no such line: {old}")
     named, why = read_list()
     if mode == "--tidy":
         tidy(named, why, there)
