@@ -30,10 +30,7 @@ pub fn add(bytes: u64, n: usize) -> u64
 pub fn none() -> Sent
     ensures { λ r. ⌜ r .bytes ≡ 0 ⌝ }
 {
-    Sent {
-        ok: true,
-        bytes: 0,
-    }
+    Sent { ok: true, bytes: 0 }
 }
 
 // Prints the first `n` bytes and counts them, unless a write failed before.
