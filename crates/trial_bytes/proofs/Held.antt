@@ -7,7 +7,7 @@ use native.Mathlib.Numerals.{add-one}
 use borrow.Author.Tests.{le-leb, lt-leb}
 use lib.ListN.{length, take, drop, set}
 use lib.Seq.{length-take-le, take-suc-set}
-use Rattle.trial_bytes.specs.Held.{heldOf, lastLine, Ends, Reads, Keeps}
+use Rattle.trial_bytes.specs.Held.{heldOf, lastLine, Ends, Keeps}
 
 -- bytes that leave room are held as they are
 pub keeps-all : (s : List ℕ) (n : ℕ) → n < length s → Keeps s s 0 n n
@@ -38,7 +38,7 @@ pub ends-none : (s : List ℕ) (n : ℕ) → n ≡ 0 → Ends s s n 0
 unfolding lastLine
 ends-none s n e = record { line = rw e; few = omega arith; within = omega arith }
 
-last-line : (s : List ℕ) → 0 < length s → lastLine s ≡ s ++ (10 ∷ [])
+pub last-line : (s : List ℕ) → 0 < length s → lastLine s ≡ s ++ (10 ∷ [])
 unfolding lastLine
 last-line [] h = absurd (omega (arith, h))
 last-line (c ∷ s) h = refl
@@ -48,18 +48,3 @@ ends-some s n g h =
     let l : length (take n s) ≡ n = length-take-le n s (omega arith) in
     let e : lastLine (take n s) ≡ take n s ++ (10 ∷ []) = last-line (take n s) (omega (arith, l)) in
     record { line = rw (add-one n, e) (take-suc-set s n 10 h); few = omega arith; within = omega arith }
-
-pub reads-last : (s m x : List ℕ) (n left r : ℕ) → 0 < left → length m ≡ length s → take n m ≡ take n s → Ends m x n r → Reads s x n left (record { count = r; left = 0 })
-reads-last s m x n left r h e f k =
-    record {
-      more = λ g. absurd (omega (arith, g));
-      last = λ _. k .line ∙ ap lastLine f;
-      within = omega (arith, e, k .within);
-      counted = omega (arith, k .few);
-      less = h;
-    }
-
-pub reads-more :
-    (s x : List ℕ) (n got left : ℕ) → 0 < got → got < left → n + got ≤ length s → take n x ≡ take n s → Reads s x n left (record { count = n + got; left = left - got })
-reads-more s x n got left g h l f =
-    record { more = λ _. (f, omega arith); last = λ z. absurd (omega (arith, z)); within = l; counted = omega arith; less = omega arith }

@@ -5,7 +5,6 @@ use mathlib.Core.List.{List, [], _∷_, _++_}
 use mathlib.Core.Bool.{cond}
 use lib.Dec.{leb}
 use lib.ListN.{length, take, drop}
-use Rattle.trial_bytes.specs.declared.Input.{Input}
 
 -- what is held of a line of which bytes s have come: a NUL byte in their place where they fill the buffer
 unfoldable pub heldOf : ℕ → List ℕ → List ℕ
@@ -21,15 +20,6 @@ pub record Ends (s s′ : List ℕ) (n r : ℕ) : Type 0 where
   pub line : take r s′ ≡ lastLine (take n s)
   pub few : r ≤ n + 1
   pub within : r ≤ length s
-
--- more was read into a buffer s that held n bytes, where `left` bytes might yet be read; the line feed of a last line is one of these
-pub record Reads (s s′ : List ℕ) (n left : ℕ) (r : Input) : Type 0 where
-  -- the bytes held stay, and some come after them; or the input ended
-  pub more : 0 < r .left → (take n s′ ≡ take n s) × (n < r .count)
-  pub last : r .left ≡ 0 → take (r .count) s′ ≡ lastLine (take n s)
-  pub within : r .count ≤ length s
-  pub counted : r .count + r .left ≤ n + left
-  pub less : r .left < left
 
 -- of a buffer s, n bytes from `from` on were kept: its first r bytes now, with room for more
 pub record Keeps (s s′ : List ℕ) (from n r : ℕ) : Type 0 where

@@ -4,7 +4,7 @@ use libc::STDOUT_FILENO;
 ghost use mathlib.Core.Path.{_≡_};
 ghost use Prim.Native.Nat.{_+_, _-_, _≤_, _<_};
 ghost use lib.ListN.{length, take};
-ghost use Rattle.trial_bytes.specs.Held.{Ends, Reads, Keeps};
+ghost use Rattle.trial_bytes.specs.Held.{Ends, Keeps};
 
 // One read, of bytes to stand after the first `held`; 0 at the end of the input, where it fails, and where no more than a buffer of
 // bytes may yet be read.
@@ -20,7 +20,7 @@ pub fn read(buf: &mut [u8], held: usize, left: u64) -> usize
 }
 
 // At the end of the input: a line feed after the bytes held, where there are any. How many bytes there are then.
-fn end_line(buf: &mut [u8], held: usize) -> usize
+pub fn end_line(buf: &mut [u8], held: usize) -> usize
     requires { ⌜ held < length (now buf) ⌝ }
     ensures { λ r. ⌜ Ends (now (buf .entry)) (now (buf .exit)) held r ⌝ }
 {
@@ -29,28 +29,6 @@ fn end_line(buf: &mut [u8], held: usize) -> usize
     }
     buf[held] = 10;
     held + 1
-}
-
-// After a read: how many bytes there are, and how many may yet be read, 0 after the end of the input.
-pub struct Input {
-    pub count: usize,
-    pub left: u64,
-}
-
-// Reads more, to stand after the `held` bytes of a line; at the end of the input they are the last line.
-pub fn read_on(buf: &mut [u8], held: usize, left: u64) -> Input
-    requires { ⌜ (held < length (now buf)) × (0 < left) ⌝ }
-    ensures { λ r. ⌜ Reads (now (buf .entry)) (now (buf .exit)) held left r ⌝ }
-{
-    let got = read(buf, held, left);
-    if got == 0 {
-        let count = end_line(buf, held);
-        return Input { count, left: 0 };
-    }
-    Input {
-        count: held + got,
-        left: left - got as u64,
-    }
 }
 
 // How many bytes stay held of the first `held`, which are not yet a line. Where they fill the buffer the line is over-long: a NUL byte

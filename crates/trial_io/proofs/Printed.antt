@@ -9,7 +9,8 @@ use Rattle.trial_core.specs.Trial.{lineStep, startTrial, startLent, trialKeys}
 use Rattle.trial_lines.specs.Lines.{Run, nextRun, runLines}
 use Rattle.trial_laws.specs.TrialRuns.{trialWords, printed, TrialHonest}
 use Rattle.trial_laws.proofs.Trials.{trial-honest}
-use Rattle.trial_io.specs.Printed.{numbered}
+use Rattle.trial_lines.specs.Lines.{linesOf}
+use Rattle.trial_io.specs.Printed.{numbered, lineOf, counted, runOf, printedOf}
 
 pub lines-printed : (w : Run) (ls : List (List ℕ)) → runLines w ls .printed ≡ w .printed ++ numbered (w .number) (printed (w .trial) (w .lent) (map parse ls))
 unfolding runLines nextRun numbered printed
@@ -25,3 +26,10 @@ pub honest-bytes :
     runLines (record { trial = startTrial; lent = startLent; number = 0; printed = [] }) ls .printed ≡ numbered 0 (trialWords (start trialKeys) (map parse ls))
 unfolding TrialHonest
 honest-bytes ls = lines-printed _ ls ∙ ap (numbered 0) (trial-honest (map parse ls))
+
+-- what an input prints is the words of that run for all its lines
+pub printed-honest :
+    (input : List ℕ) →
+    printedOf input ≡ numbered 0 (trialWords (start trialKeys) (map parse (map lineOf (counted (linesOf input)))))
+unfolding printedOf runOf
+printed-honest input = honest-bytes (map lineOf (counted (linesOf input)))

@@ -1,80 +1,87 @@
-use Prim.Native.Nat.{_+_, _≤_, _<_}
-use mathlib.Core.Path.{_≡_}
+use mathlib.Core.Path.{_≡_, sym, _∙_}
+use mathlib.Core.Bool.{Bool}
+use native.Mathlib.Omega.{arith}
 use borrow.Author.Needs.{needs}
-use lib.ListN.{length}
+use Rattle.trial_io.proofs.Going.{lent-start, ran-short, ran-ended}
 use Rattle.trial_io.proofs.run.Statement.{statement}
 use Rattle.trial_io.proofs.run.Tie as tie
 
-abbrev Inv-loop : tie.InvT-loop
-Inv-loop buf₀ out₀ log₀ replies₀ invokes₀ trial₀ number₀ held₀ left₀ buf out log replies invokes trial number held left =
-    (held < 65536) × (length buf ≡ 65536) × (length out ≡ 65536) × (number + held + left ≤ 18446744073709551615)
+at-end-was : {a b c : Bool} → a ≡ b → a ≡ c → b ≡ c
+at-end-was e f = sym e ∙ f
 
-abbrev μ-loop : tie.MeasureT-loop
-μ-loop buf₀ out₀ log₀ replies₀ invokes₀ trial₀ number₀ held₀ left₀ buf out log replies invokes trial number held left = left
-
-large-buffer-requires : tie.Need-large-buffer-requires Inv-loop μ-loop
+large-buffer-requires : tie.Need-large-buffer-requires
 large-buffer-requires c κs = search needs
 
-large-buffer-requires-2 : tie.Need-large-buffer-requires-2 Inv-loop μ-loop
+large-buffer-requires-2 : tie.Need-large-buffer-requires-2
 large-buffer-requires-2 c κs = search needs
 
-zero-log-requires : tie.Need-zero-log-requires Inv-loop μ-loop
+zero-log-requires : tie.Need-zero-log-requires
 zero-log-requires c κs = search needs
 
-zero-replies-requires : tie.Need-zero-replies-requires Inv-loop μ-loop
+zero-replies-requires : tie.Need-zero-replies-requires
 zero-replies-requires c κs = search needs
 
-zero-invokes-requires : tie.Need-zero-invokes-requires Inv-loop μ-loop
+zero-invokes-requires : tie.Need-zero-invokes-requires
 zero-invokes-requires c κs = search needs
 
-start-requires : tie.Need-start-requires Inv-loop μ-loop
-start-requires c κs = search needs
+slice-aggregate-read-lines : tie.Need-slice-aggregate-read-lines
+slice-aggregate-read-lines c = search needs
 
-loop-holds : tie.Need-loop-holds Inv-loop μ-loop
-loop-holds c = search needs
+slice-aggregate-read-lines-2 : tie.Need-slice-aggregate-read-lines-2
+slice-aggregate-read-lines-2 c = search needs
 
-slice-aggregate-read-on : tie.Need-slice-aggregate-read-on Inv-loop μ-loop
-slice-aggregate-read-on c = search needs
+read-lines-requires : tie.Need-read-lines-requires
+read-lines-requires c κs = (search needs, search needs, lent-start _ _ _ (c .before .before .before .before .before .before .before .zero-log .ensures) (c .before .before .before .before .before .before .zero-replies .ensures) (c .before .before .before .before .before .zero-invokes .ensures))
 
-read-on-requires : tie.Need-read-on-requires Inv-loop μ-loop
-read-on-requires c κs = search needs
+ended-by-requires : tie.Need-ended-by-requires
+ended-by-requires c κs = search needs
 
-slice-aggregate-whole-lines : tie.Need-slice-aggregate-whole-lines Inv-loop μ-loop
+at-end-requires : tie.Need-at-end-requires
+at-end-requires c κs = search needs
+
+slice-aggregate-end-line : tie.Need-slice-aggregate-end-line
+slice-aggregate-end-line c = search needs
+
+end-line-requires : tie.Need-end-line-requires
+end-line-requires c κs = c .before .before .before .before .before .before .before .before .before .read-lines .ensures .room
+
+slice-aggregate-whole-lines : tie.Need-slice-aggregate-whole-lines
 slice-aggregate-whole-lines c = search needs
 
-slice-aggregate-whole-lines-2 : tie.Need-slice-aggregate-whole-lines-2 Inv-loop μ-loop
+slice-aggregate-whole-lines-2 : tie.Need-slice-aggregate-whole-lines-2
 slice-aggregate-whole-lines-2 c = search needs
 
-whole-lines-requires : tie.Need-whole-lines-requires Inv-loop μ-loop
-whole-lines-requires c κs = search needs
+whole-lines-requires : tie.Need-whole-lines-requires
+whole-lines-requires c κs = let k = c .before .before .before .before .before .before .before .before .before .before .before .before .before .before .before .before .read-lines .ensures in let d = c .before .before .before .before .before .before .end-line .ensures in (search needs, search needs, search needs, omega (arith, k .few, k .below, d .few))
 
-loop-less : tie.Need-loop-less Inv-loop μ-loop
-loop-less c = search needs
+ended-by-requires-2 : tie.Need-ended-by-requires-2
+ended-by-requires-2 c κs = search needs
 
-loop-again : tie.Need-loop-again Inv-loop μ-loop
-loop-again c = search needs
+returns : tie.Need-returns
+returns c = ran-ended (c .before .before .before .before .before .before .before .before .before .before .before .before .before .before .before .before .before .before .before .before .before .read-lines .ensures) (c .before .before .before .before .before .before .before .before .before .before .before .before .before .before .before .before .ended-by .ensures) (at-end-was (c .before .before .before .before .before .before .before .before .before .before .before .before .before .before .before .at-end .ensures) (c .before .before .before .before .before .before .before .before .before .before .before .before .before .before .if1 .taken)) (c .before .before .before .before .before .before .before .before .before .before .before .end-line .ensures) (search needs) (c .before .before .before .before .whole-lines .ensures) (c .ended-by2 .ensures)
 
-returns : tie.Need-returns Inv-loop μ-loop
-returns c = search needs
+returns-2 : tie.Need-returns-2
+returns-2 c = ran-short (c .before .before .before .before .before .before .before .read-lines .ensures) (c .before .before .ended-by .ensures) (at-end-was (c .before .at-end .ensures) (c .if1 .left))
 
 pub run-spec : {M : Type 1} → statement M
 run-spec =
     tie.close
     (tie.spec
-    Inv-loop
-    μ-loop
     large-buffer-requires
     large-buffer-requires-2
     zero-log-requires
     zero-replies-requires
     zero-invokes-requires
-    start-requires
-    loop-holds
-    slice-aggregate-read-on
-    read-on-requires
+    slice-aggregate-read-lines
+    slice-aggregate-read-lines-2
+    read-lines-requires
+    ended-by-requires
+    at-end-requires
+    slice-aggregate-end-line
+    end-line-requires
     slice-aggregate-whole-lines
     slice-aggregate-whole-lines-2
     whole-lines-requires
-    loop-less
-    loop-again
-    returns)
+    ended-by-requires-2
+    returns
+    returns-2)

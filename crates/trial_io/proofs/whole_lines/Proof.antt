@@ -9,14 +9,14 @@ use Rattle.trial_io.proofs.whole_lines.Statement.{statement}
 use Rattle.trial_io.proofs.whole_lines.Tie as tie
 
 abbrev Inv-loop : tie.InvT-loop
-Inv-loop first n buf out₀ log₀ replies₀ invokes₀ trial₀ number₀ at₀ used₀ out log replies invokes trial number at used =
-    Passed trial₀ (lentOf log₀ replies₀ invokes₀) buf n first trial (lentOf log replies invokes) number at used × (length out ≡ length out₀)
+Inv-loop first n buf out₀ log₀ replies₀ invokes₀ trial₀ number₀ sent₀ at₀ used₀ out log replies invokes trial number sent at used =
+    Passed trial₀ (lentOf log₀ replies₀ invokes₀) buf n first sent₀ trial (lentOf log replies invokes) number at used sent × (length out ≡ length out₀)
 
 abbrev μ-loop : tie.MeasureT-loop
-μ-loop first n buf out₀ log₀ replies₀ invokes₀ trial₀ number₀ at₀ used₀ out log replies invokes trial number at used = n + used - at
+μ-loop first n buf out₀ log₀ replies₀ invokes₀ trial₀ number₀ sent₀ at₀ used₀ out log replies invokes trial number sent at used = n + used - at
 
 loop-holds : tie.Need-loop-holds Inv-loop μ-loop
-loop-holds c = (passed-none _ _ _ _ _, search needs)
+loop-holds c = (passed-none _ _ _ _ _ _ (search needs), search needs)
 
 sub-answers : tie.Need-sub-answers Inv-loop μ-loop
 sub-answers c = search needs
@@ -36,18 +36,18 @@ add-number c = search needs
 add-at : tie.Need-add-at Inv-loop μ-loop
 add-at c = search needs
 
-print-requires : tie.Need-print-requires Inv-loop μ-loop
-print-requires c κs = search needs
+send-requires : tie.Need-send-requires Inv-loop μ-loop
+send-requires c κs = search needs
 
 loop-less : tie.Need-loop-less Inv-loop μ-loop
-loop-less c = search needs
+loop-less c = omega (arith, c .before .before .before .before .before .before .before .before .before .before .before .before .before .before .loop .inv .0 .within, c .before .before .before .before .before .before .before .before .before .before .before .before .before .loop-test .taken)
 
 loop-again : tie.Need-loop-again Inv-loop μ-loop
 loop-again c =
     let k = c .before .before .before .before .before .before .before .before .before .before .before .before .before .before .loop in
     let a = c .before .before .before .before .before .before .answers in
     let g : 64 ≤ length (k .out) = omega (arith, c .before .before .before .before .before .before .before .before .before .before .before .before .before .before .before .before .before .pre .2, k .inv .1) in
-    (passed-more {r = a .result} g (search needs) (k .inv .0) (a .ensures), search needs)
+    (passed-more {r = a .result} g (search needs) (k .inv .0) (a .ensures) (c .send .ensures), search needs)
 
 keep-requires : tie.Need-keep-requires Inv-loop μ-loop
 keep-requires c κs = search needs
@@ -74,7 +74,7 @@ whole-lines-spec =
     answers-requires
     add-number
     add-at
-    print-requires
+    send-requires
     loop-less
     loop-again
     keep-requires
