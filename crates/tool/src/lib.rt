@@ -163,7 +163,10 @@ pub fn tell(name: &[u8], why: Why) -> bool
         }
         Why::Limit => {
             io::write_all(STDERR_FILENO, name);
-            io::write_all(STDERR_FILENO, b": no more is read, after nearly 2^64 bytes\n");
+            io::write_all(
+                STDERR_FILENO,
+                b": no more is read, after nearly 2^64 bytes\n",
+            );
             true
         }
     }
