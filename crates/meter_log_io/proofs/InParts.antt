@@ -1,32 +1,32 @@
--- The input in parts: what was told and printed of all that came, however it was cut into reads. Assumes nothing.
-use Prim.Native.Nat.{ℕ}
+-- The input in parts: what was told and sent of all that came, however it was cut into reads. Assumes nothing.
+use Prim.Native.Nat.{ℕ, _+_, _-_, _<_, _≤_, _^_}
 use mathlib.Core.Path.{_≡_, refl, sym, ap, _∙_}
-use mathlib.Core.List.{List, [], _∷_, _++_, append-nil, append-assoc}
-use mathlib.Core.Bool.{Bool, false}
+use mathlib.Core.List.{List, [], _∷_, _++_, append-assoc}
+use mathlib.Core.Bool.{Bool, true, false, not, _&&_, true≢false}
 use native.Mathlib.Omega.{arith}
-use lib.ListN.{take}
+use lib.ListN.{length, take, drop, length-append, length-drop}
+use lib.Seq.{length-take-le}
+use Rattle.slices.proofs.Laws.{and-yes}
 use Rattle.text.specs.Text.{cut}
+use Rattle.text.proofs.Laws.{either}
 use Rattle.text.proofs.Joins.{last-piece, last-goes-on}
-use Rattle.meter_log_told.specs.declared.Log.{Log}
-use Rattle.meter_log_told.specs.declared.Log.the-variants as L
-use Rattle.meter_log_lines.specs.Lines.{Run, runWhole}
-use Rattle.meter_log_lines.specs.Printed.{runLast, runInput, printedOf}
-use Rattle.meter_log_lines.proofs.Laws.{from, run-then}
+use Rattle.input.specs.declared.Input.{Input}
+use Rattle.input.specs.Reads.{goesOn, Reads}
+use Rattle.meter_log_lines.specs.Lines.{runWhole}
+use Rattle.meter_log_io.specs.declared.State.{State}
 use Rattle.meter_log_io.specs.declared.Kept.{Kept}
-use Rattle.meter_log_io.specs.Whole.{Stands, all, Past, AllTold, Came, Ended, Reached}
-
--- nothing came
-pub input-none : Past L.Start [] [] L.Start
-unfolding cut runWhole
-input-none = record { told = []; printed = []; pieces = refl; run = refl }
+use Rattle.meter_log_io.specs.Whole.{between, Stands, all, over, First, Past, AllTold, Came}
+use Rattle.meter_log_io.specs.Ran.{Reached, Stopped}
+use Rattle.meter_log_io.proofs.Sizes.{past-few}
+use Rattle.meter_log_io.proofs.Laws.{sends-none, runs, sent-both}
 
 -- more bytes came, by the contract of `more`: all is told of them together
-module _ {t : List ℕ} {g : Log} {p : List ℕ} (i : Past L.Start t p g) {o : Bool} {s x : List ℕ} {g′ : Log} {k : Kept} {buf′ : List ℕ} (c : Came g o s x g′ k buf′) (h : Stands o s p) where
-  abbrev part : AllTold g (p ++ x) g′ k buf′
+module _ {w₀ : State} {t : List ℕ} {w : State} {p : List ℕ} (i : Past w₀ t p w) {o : Bool} {s x : List ℕ} {w′ : State} {k : Kept} {buf′ : List ℕ} (c : Came w o s x w′ k buf′) (h : Stands o s p) where
+  abbrev part : AllTold w (p ++ x) w′ k buf′
   part = c .whole p (last-piece 10 t (i .told) p (i .pieces)) h
 
-  pub input-more : Past L.Start (t ++ x) (part .rest) g′
-  input-more =
+  pub past-more : Past w₀ (t ++ x) (part .rest) w′
+  past-more =
       let y = part .past in
       record {
         told = i .told ++ y .told;
@@ -35,42 +35,93 @@ module _ {t : List ℕ} {g : Log} {p : List ℕ} (i : Past L.Start t p g) {o : B
             last-goes-on 10 t (i .told) p (i .pieces) x
             ∙ ap (λ (z : List (List ℕ)). i .told ++ z) (y .pieces)
             ∙ sym (append-assoc (i .told) (y .told) (part .rest ∷ []));
-        run = run-then L.Start g g′ (i .printed) (y .printed) (i .told) (y .told) (i .run) (y .run);
+        run = runs w₀ w w′ (i .printed) (y .printed) (i .told) (y .told) (i .run) (y .run);
+        sent = sent-both (i .printed) (y .printed) (i .sent) (y .sent);
       }
 
--- the program before its first read, and after one more, which leaves what is held
-pub reached-none : (buf : List ℕ) → Reached L.Start (record { over = false; held = 0 }) buf
-reached-none buf = record { input = []; left = []; past = input-none; stands = all {p = []} refl (omega arith) }
+-- before the first read nothing came
+past-none : (w : State) → First w → Past w [] [] w
+unfolding cut runWhole
+past-none w f = record { told = []; printed = []; pieces = refl; run = refl; sent = sends-none (w .sent) (omega (arith, f .sent)) }
 
+pub reached-none : (w : State) (buf : List ℕ) → First w → Reached w (record { over = false; held = 0 }) buf 0
+reached-none w buf f =
+    record { input = []; counted = refl; left = []; start = w; first = f; past = past-none w f; stands = all {p = []} refl (omega arith) }
+
+-- and after one more, the bytes from `held` to n of what it left in the buffer came
 pub reached-more :
-    {g : Log} {k : Kept} {buf : List ℕ} {s x : List ℕ} {g′ : Log} {k′ : Kept} {buf′ : List ℕ} →
-    Reached g k buf →
-    s ≡ take (k .held) buf →
-    Came g (k .over) s x g′ k′ buf′ →
-    Reached g′ k′ buf′
-reached-more {k = k} {x = x} w e c =
-    let h : Stands (k .over) _ (w .left) = rw (sym e) at (w .stands) in
-    let a = part (w .past) c h in
-    record { input = w .input ++ x; left = a .rest; past = input-more (w .past) c h; stands = a .kept }
+    (buf₁ : List ℕ) (n : ℕ) {w : State} {k : Kept} {buf : List ℕ} {total total′ : ℕ} {w′ : State} {k′ : Kept} {buf′ : List ℕ} →
+    Reached w k buf total →
+    take (k .held) buf₁ ≡ take (k .held) buf →
+    k .held ≤ n →
+    n ≤ length buf₁ →
+    total′ + k .held ≡ total + n →
+    Came w (k .over) (take (k .held) buf₁) (between buf₁ (k .held) n) w′ k′ buf′ →
+    Reached w′ k′ buf′ total′
+reached-more buf₁ n {w} {k} {buf} {total} {total′} r e l m g c =
+    let x = between buf₁ (k .held) n in
+    let h : Stands (k .over) (take (k .held) buf₁) (r .left) = rw e (r .stands) in
+    let a = part (r .past) c h in
+    let f : length x ≡ n - k .held = length-take-le (n - k .held) (drop (k .held) buf₁) (omega (arith, length-drop (k .held) buf₁)) in
+    record {
+      input = r .input ++ x;
+      counted = omega (arith, length-append (r .input) x, f, r .counted, g, l);
+      left = a .rest;
+      start = r .start;
+      first = r .first;
+      past = past-more (r .past) c h;
+      stands = a .kept;
+    }
 
--- ---- the end of the input
-all-last : (w : Run) (ps : List (List ℕ)) (p : List ℕ) → runInput w (ps ++ (p ∷ [])) ≡ runLast (runWhole w ps) p
-unfolding runInput runWhole
-all-last w [] p = refl
-all-last w (q ∷ []) p = refl
-all-last w (q ∷ r ∷ ps) p = all-last _ (r ∷ ps) p
+-- lines told and bytes held are no more than bytes read
+stands-few : {o : Bool} {s p : List ℕ} → Stands o s p → length s ≤ length p
+stands-few (all e h) = omega (arith, ap length e)
+stands-few (over e h) = omega (arith, ap length e)
 
-input-all : {t : List ℕ} {g : Log} {p : List ℕ} (i : Past L.Start t p g) → runLast (record { log = g; printed = i .printed }) p .printed ≡ printedOf t
-unfolding printedOf
-input-all {p = p} i =
-    ap (λ (w : Run). runLast w p .printed) (i .run)
-    ∙ sym (ap (λ (w : Run). w .printed) (ap (runInput (from L.Start)) (i .pieces) ∙ all-last (from L.Start) (i .told) p))
+pub reached-few : {w : State} {k : Kept} {buf : List ℕ} {total : ℕ} → Reached w k buf total → k .held < length buf → w .number + k .held ≤ total
+reached-few {w} {k} {buf} r h =
+    omega
+    (arith, past-few (r .past), r .counted, r .first .number, stands-few (r .stands), length-take-le (k .held) buf (omega (arith, h)))
 
-last-behind : (g : Log) (p printed : List ℕ) → printed ++ runLast (from g) p .printed ≡ runLast (record { log = g; printed = printed }) p .printed
-unfolding runLast
-last-behind g [] printed = append-nil printed
-last-behind g (b ∷ p) printed = refl
+-- ---- a turn of the loop, by the contracts of what it calls
+-- it goes on only after a read that brought bytes and writes that succeeded
+pub on : (a o r : Bool) → r ≡ (a && o) → not r ≡ false → (a ≡ true) × (o ≡ true)
+on a o true e h = and-yes a o (sym e)
+on a o false e h = absurd (true≢false h)
 
--- with the line that no line feed ends, by the contract of `put_last`, all is printed that the whole input prints
-pub input-ends : {t : List ℕ} {g : Log} {p : List ℕ} {o : Bool} {s q : List ℕ} (i : Past L.Start t p g) → Ended g o s q → Stands o s p → i .printed ++ q ≡ printedOf t
-input-ends {g = g} {p = p} i e h = ap (λ (z : List ℕ). i .printed ++ z) (e .last p h) ∙ last-behind g p (i .printed) ∙ input-all i
+and-no : (a o : Bool) → o ≡ true → (a && o) ≡ false → a ≡ false
+and-no false o h e = refl
+and-no true o h e = absurd (true≢false (sym h ∙ e))
+
+off : (a o r : Bool) → r ≡ (a && o) → not r ≡ true → o ≡ true → a ≡ false
+off a o true e h g = absurd (true≢false (sym h))
+off a o false e h g = and-no a o g (sym e)
+
+pub reached-next :
+    {w : State} {k : Kept} {buf buf₁ : List ℕ} {total : ℕ} {g : Input} {w′ : State} {k′ : Kept} {buf′ : List ℕ} →
+    Reached w k buf total →
+    length buf₁ ≡ length buf →
+    Reads buf buf₁ (k .held) total g →
+    Came w (k .over) (take (k .held) buf₁) (between buf₁ (k .held) (g .count)) w′ k′ buf′ →
+    Reached w′ k′ buf′ (g .total)
+reached-next {buf₁ = buf₁} {g = g} r l i c = reached-more buf₁ (g .count) r (i .kept) (i .behind) (omega (arith, i .within, l)) (i .counted) c
+
+pub stopped :
+    {w : State} {k : Kept} {buf buf₁ : List ℕ} {total : ℕ} {g : Input} {w′ : State} {k′ : Kept} {buf′ : List ℕ} {r : Bool} →
+    Reached w k buf total →
+    total + 1 < 2 ^ 64 →
+    length buf ≡ 65536 →
+    length buf₁ ≡ length buf →
+    Reads buf buf₁ (k .held) total g →
+    Came w (k .over) (take (k .held) buf₁) (between buf₁ (k .held) (g .count)) w′ k′ buf′ →
+    r ≡ (goesOn (g .brought) && w′ .sent .ok) →
+    not r ≡ true →
+    Stopped (record { state = w′; kept = k′; total = g .total; brought = g .brought }) buf′
+stopped {g = g} {w′ = w′} q m z l i c e h =
+    record {
+      reached = reached-next q l i c;
+      room = c .room;
+      below = either (goesOn (g .brought)) (λ o. omega (arith, i .below o)) (λ o. omega (arith, i .none o, i .counted, m));
+      last = off (goesOn (g .brought)) (w′ .sent .ok) _ e h;
+      limit = λ f. omega (arith, i .limit f, z, i .counted, i .behind);
+    }

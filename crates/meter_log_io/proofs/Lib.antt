@@ -1,2 +1,4 @@
+pub mod Sizes
 pub mod Laws
 pub mod InParts
+pub mod Ran

@@ -1,15 +1,21 @@
--- What the log program holds of a line that is not yet whole, and what it has told of the bytes that came.
-use Prim.Native.Nat.{ℕ, _-_, _<_, _≤_}
+-- What the log program holds of a line that is not yet whole, and what it has told and sent of the bytes that came.
+use Prim.Native.Nat.{ℕ, _+_, _-_, _<_, _≤_}
 use mathlib.Core.Path.{_≡_}
 use mathlib.Core.List.{List, [], _∷_, _++_}
 use mathlib.Core.Bool.{Bool, true, false}
 use lib.ListN.{length, take, drop}
 use Rattle.text.specs.Text.{cut}
-use Rattle.meter_log_told.specs.declared.Log.{Log}
+use Rattle.input.specs.declared.Brought.{Brought}
+use Rattle.input.specs.declared.Brought.the-variants as B
+use Rattle.output.specs.declared.Sent.{Sent}
+use Rattle.output.specs.Sends.{Sends}
 use Rattle.meter_log_told.specs.declared.Log.the-variants as L
+use Rattle.meter_log_told.specs.declared.LogStep.{LogStep}
 use Rattle.meter_log_told.specs.Told.{lineLimit}
+use Rattle.meter_log_put.specs.Text.{toldBytes}
 use Rattle.meter_log_lines.specs.Lines.{Run, runWhole}
 use Rattle.meter_log_lines.specs.Printed.{runLast}
+use Rattle.meter_log_io.specs.declared.State.{State}
 use Rattle.meter_log_io.specs.declared.Kept.{Kept}
 
 -- the bytes of a buffer from `from` to n
@@ -21,34 +27,50 @@ pub data Stands : Bool → List ℕ → List ℕ → Type 0 where
   all : {s p : List ℕ} → s ≡ p → length p ≤ lineLimit → Stands false s p
   over : {s p : List ℕ} → s ≡ [] → lineLimit < length p → Stands true s p
 
--- of bytes t after the log g the whole lines were told, and u, which is not one, is left of them
-pub record Past (g : Log) (t u : List ℕ) (g′ : Log) : Type 0 where
+-- the run that goes on from a state, with what it printed
+abbrev pub runAt : State → List ℕ → Run
+runAt w printed = record { log = w .log; number = w .number; printed = printed }
+
+-- before the first line nothing was sent
+pub record First (w : State) : Type 0 where
+  pub log : w .log ≡ L.Start
+  pub number : w .number ≡ 0
+  pub sent : w .sent .bytes ≡ 0
+
+-- of bytes t after the state w the whole lines were told, and u, which is not one, is left of them
+pub record Past (w : State) (t u : List ℕ) (w′ : State) : Type 0 where
   pub told : List (List ℕ)
-  -- what they print, in their order
+  -- what they print, in their order, and as many bytes were sent
   pub printed : List ℕ
   pub pieces : cut 10 t ≡ told ++ (u ∷ [])
-  pub run : _≡_ {A = Run} (record { log = g′; printed = printed }) (runWhole (record { log = g; printed = [] }) told)
+  pub run : runAt w′ printed ≡ runWhole (runAt w []) told
+  pub sent : Sends (w .sent) (length printed) (w′ .sent)
 
--- of bytes t that came after the log g every whole line was told, and the rest is held in the buffer's front
-pub record AllTold (g : Log) (t : List ℕ) (g′ : Log) (k : Kept) (buf′ : List ℕ) : Type 0 where
+-- one line was told, from the front of `out` on
+pub record OneMore (w : State) (s : LogStep) (w′ : State) (out′ : List ℕ) : Type 0 where
+  pub log : w′ .log ≡ s .log
+  pub number : w′ .number ≡ w .number + 1
+  pub written : take (length (toldBytes (w .number + 1) (s .told))) out′ ≡ toldBytes (w .number + 1) (s .told)
+  pub sent : Sends (w .sent) (length (toldBytes (w .number + 1) (s .told))) (w′ .sent)
+
+-- of bytes t that came after the state w every whole line was told, and the rest is held in the buffer's front
+pub record AllTold (w : State) (t : List ℕ) (w′ : State) (k : Kept) (buf′ : List ℕ) : Type 0 where
   -- what stands after the last line feed
   pub rest : List ℕ
-  pub past : Past g t rest g′
+  pub past : Past w t rest w′
   pub kept : Stands (k .over) (take (k .held) buf′) rest
 
 -- bytes x came after those of a line under way, for which the bytes s stand: whichever these are, all is told
-pub record Came (g : Log) (over : Bool) (s x : List ℕ) (g′ : Log) (k : Kept) (buf′ : List ℕ) : Type 0 where
-  pub whole : (p : List ℕ) → cut 10 p ≡ p ∷ [] → Stands over s p → AllTold g (p ++ x) g′ k buf′
+pub record Came (w : State) (over : Bool) (s x : List ℕ) (w′ : State) (k : Kept) (buf′ : List ℕ) : Type 0 where
+  pub whole : (p : List ℕ) → cut 10 p ≡ p ∷ [] → Stands over s p → AllTold w (p ++ x) w′ k buf′
   pub room : k .held < length buf′
   pub none : k .over ≡ true → k .held ≡ 0
 
--- the input ended with a line under way, for which the bytes s stand: whichever these are, `printed` is what is told of it
-pub record Ended (g : Log) (over : Bool) (s printed : List ℕ) : Type 0 where
-  pub last : (p : List ℕ) → Stands over s p → printed ≡ runLast (record { log = g; printed = [] }) p .printed
+-- the input ended with a line under way, for which the bytes s stand: whichever these are, what is told of it was sent
+pub record LastTold (w : State) (over : Bool) (s : List ℕ) (r : Sent) : Type 0 where
+  pub last : (p : List ℕ) → Stands over s p → Sends (w .sent) (length (runLast (runAt w []) p .printed)) r
 
--- the program after its reads: log and what is held are those of an input, all of whose whole lines were told
-pub record Reached (g : Log) (k : Kept) (buf : List ℕ) : Type 0 where
-  pub input : List ℕ
-  pub left : List ℕ
-  pub past : Past L.Start input left g
-  pub stands : Stands (k .over) (take (k .held) buf) left
+-- only where the input ended is there a last line
+pub record Finished (b : Brought) (w : State) (over : Bool) (s : List ℕ) (r : Sent) : Type 0 where
+  pub ended : b ≡ B.Ended → LastTold w over s r
+  pub not-yet : (b ≡ B.Ended → ⊥) → r ≡ w .sent

@@ -1,19 +1,32 @@
-// The log program: a log from standard input to its end, and a line for each of its lines on standard output. What is printed for which
-// line is the contract of `meter_log_lines::tell_lines`, and for the last one, where no line feed ends it, of `put_last`; that no byte is
-// lost or read twice between two reads is that of `more`, and of `tell_input` for every way in which the input may come in parts. `run`
-// only lends the buffers.
+// The log program: the log of an open file to its end, and a line for each of its lines on standard output. What is printed for which line
+// is the contract of `meter_log_lines::tell_lines`, and for the last one, where no line feed ends it, of `tell_end`; that no byte is lost
+// or told twice between two reads is that of `more`, and of `tell_input` for every way in which the input may come in parts. `run` says
+// how many bytes were read and sent, and why it ended. Definitions: specs/Whole.antt, specs/Ran.antt.
+use input::Brought;
 use meter_log_told::Log;
+use meter_log_told::LogStep;
+use output::Sent;
+use tool::Why;
 ghost use mathlib.Core.Path.{_≡_};
 ghost use mathlib.Core.List.{[]};
-ghost use mathlib.Core.Bool.{true};
-ghost use Prim.Native.Nat.{_+_, _≤_, _<_};
+ghost use mathlib.Core.Bool.{true, _&&_};
+ghost use Prim.Native.Nat.{_+_, _≤_, _<_, _^_};
 ghost use lib.ListN.{length, take};
-ghost use Rattle.meter_log_told.specs.Told.{lineLimit, tellLong};
-ghost use Rattle.meter_log_io.specs.Whole.{between, Stands, Past, AllTold, Came, Ended, Reached};
+ghost use Rattle.input.specs.Reads.{goesOn};
+ghost use Rattle.meter_log_told.specs.Told.{lineLimit};
+ghost use Rattle.meter_log_io.specs.Whole.{between, Stands, Past, OneMore, AllTold, Came, LastTold, Finished, First};
+ghost use Rattle.meter_log_io.specs.Ran.{Stopped, Ran};
 
-// The whole lines of a buffer are told: the log after them, and where they end.
-struct Passed {
+// The program between two lines: the log, how many lines were told, and what was sent.
+struct State {
     log: Log,
+    number: u64,
+    sent: Sent,
+}
+
+// The whole lines of a buffer are told: the state after them, and where they end.
+struct Passed {
+    state: State,
     at: usize,
 }
 
@@ -23,30 +36,35 @@ struct Kept {
     held: usize,
 }
 
-// After some bytes: the log, and what is held.
-struct LogAfter {
-    log: Log,
+// After some bytes: the state, and what is held.
+struct StateAfter {
+    state: State,
     kept: Kept,
 }
 
 // Tells the whole lines among the bytes from `from` to `n`, and prints what they give. `tell_lines` stops where `out` has little room,
 // so it is called until it uses nothing.
-fn tell_between(start: Log, from: usize, n: usize, buf: &[u8], out: &mut [u8]) -> Passed
-    requires { ⌜ (from ≤ n) × (n ≤ length (now buf)) × (64 ≤ length (now out)) ⌝ }
-    ensures { λ r. ⌜ Past start (between (now (buf .entry)) from n) (between (now (buf .entry)) (r .at) n) (r .log) × (from ≤ r .at) × (r .at ≤ n) ⌝ }
+fn tell_between(start: State, from: usize, n: usize, buf: &[u8], out: &mut [u8]) -> Passed
+    requires { ⌜ (from ≤ n) × (n ≤ length (now buf)) × (64 ≤ length (now out)) × (start .number + n < 2 ^ 64 + from) ⌝ }
+    ensures { λ r. ⌜ Past start (between (now (buf .entry)) from n) (between (now (buf .entry)) (r .at) n) (r .state) × (from ≤ r .at) × (r .at ≤ n) ⌝ }
 {
-    let mut log = start;
+    let mut log = start.log;
+    let mut number = start.number;
+    let mut sent = start.sent;
     let mut at = from;
     let mut used = 1;
     while used != 0 {
-        let q = meter_log_lines::tell_lines(log, &buf[at..n], out);
-        let after = q.log;
-        log = after;
+        let q = meter_log_lines::tell_lines(log, number, &buf[at..n], out);
+        let next = q.log;
+        log = next;
+        number += q.count;
         used = q.used;
         at += used;
-        trial_bytes::print(out, q.filled);
+        let s = output::send(out, q.filled, sent);
+        sent = s;
     }
-    Passed { log, at }
+    let state = State { log, number, sent };
+    Passed { state, at }
 }
 
 // Holds the bytes from `at` to `n`, which are not yet a line, in the front of the buffer, unless they fill it.
@@ -67,131 +85,175 @@ fn hold_rest(buf: &mut [u8], at: usize, n: usize) -> Kept
     Kept { over: false, held }
 }
 
-// The bytes from `from` to `n` came after the log.
-fn tell_from(log: Log, from: usize, n: usize, buf: &mut [u8], out: &mut [u8]) -> LogAfter
-    requires { ⌜ (from ≤ n) × (n ≤ length (now buf)) × (length (now buf) ≡ lineLimit + 1) × (64 ≤ length (now out)) ⌝ }
-    ensures { λ r. ⌜ AllTold log (between (now (buf .entry)) from n) (r .log) (r .kept) (now (buf .exit))
+// The bytes from `from` to `n` came.
+fn tell_from(start: State, from: usize, n: usize, buf: &mut [u8], out: &mut [u8]) -> StateAfter
+    requires { ⌜ (from ≤ n) × (n ≤ length (now buf)) × (length (now buf) ≡ lineLimit + 1) × (64 ≤ length (now out)) × (start .number + n < 2 ^ 64 + from) ⌝ }
+    ensures { λ r. ⌜ AllTold start (between (now (buf .entry)) from n) (r .state) (r .kept) (now (buf .exit))
         × (r .kept .held < length (now (buf .exit)))
         × (r .kept .over ≡ true → r .kept .held ≡ 0) ⌝ }
 {
-    let q = tell_between(log, from, n, buf, out);
-    let next = q.log;
+    let q = tell_between(start, from, n, buf, out);
+    let after = q.state;
     let kept = hold_rest(buf, q.at, n);
-    LogAfter { log: next, kept }
+    StateAfter { state: after, kept }
 }
 
-// Tells that a line is over-long, and answers the log after it.
-fn print_long(log: Log, out: &mut [u8]) -> Log
-    requires { ⌜ 64 ≤ length (now out) ⌝ }
-    ensures { λ r. ⌜ r ≡ tellLong log .log ⌝ }
+// Prints what is told of the next line.
+fn tell_one(state: State, step: LogStep, out: &mut [u8]) -> State
+    requires { ⌜ (64 ≤ length (now out)) × (state .number + 1 < 2 ^ 64) ⌝ }
+    ensures { λ r. ⌜ OneMore state step r (now (out .exit)) ⌝ }
 {
-    let s = meter_log_told::tell_long(log);
-    let told = s.told;
-    let k = meter_log_told::put_told(out, 0, told);
-    trial_bytes::print(out, k);
-    s.log
+    let log = step.log;
+    let told = step.told;
+    let number = state.number + 1;
+    let k = meter_log_put::put_told(out, 0, number, told);
+    let sent = output::send(out, k, state.sent);
+    State { log, number, sent }
 }
 
 // The first `n` bytes of the buffer came in the midst of an over-long line.
-fn tell_over(log: Log, n: usize, buf: &mut [u8], out: &mut [u8]) -> LogAfter
-    requires { ⌜ (n ≤ length (now buf)) × (length (now buf) ≡ lineLimit + 1) × (64 ≤ length (now out)) ⌝ }
-    ensures { λ r. ⌜ Came log true [] (between (now (buf .entry)) 0 n) (r .log) (r .kept) (now (buf .exit)) ⌝ }
+fn tell_over(state: State, n: usize, buf: &mut [u8], out: &mut [u8]) -> StateAfter
+    requires { ⌜ (n ≤ length (now buf)) × (length (now buf) ≡ lineLimit + 1) × (64 ≤ length (now out)) × (state .number + n < 2 ^ 64) ⌝ }
+    ensures { λ r. ⌜ Came state true [] (between (now (buf .entry)) 0 n) (r .state) (r .kept) (now (buf .exit)) ⌝ }
 {
     let e = text::find(&buf[0..n], 0, 10);
     if e == n {
-        return LogAfter {
-            log,
+        return StateAfter {
+            state,
             kept: Kept {
                 over: true,
                 held: 0,
             },
         };
     }
-    let next = print_long(log, out);
+    let log = state.log;
+    let step = meter_log_told::tell_long(log);
+    let next = tell_one(state, step, out);
     tell_from(next, e + 1, n, buf, out)
 }
 
 // After a line under way, for which what is kept stands, the bytes up to `n` came.
-fn more(log: Log, kept: Kept, n: usize, buf: &mut [u8], out: &mut [u8]) -> LogAfter
-    requires { ⌜ (kept .held ≤ n) × (kept .over ≡ true → kept .held ≡ 0) × (n ≤ length (now buf)) × (length (now buf) ≡ lineLimit + 1) × (64 ≤ length (now out)) ⌝ }
-    ensures { λ r. ⌜ Came log (kept .over) (take (kept .held) (now (buf .entry))) (between (now (buf .entry)) (kept .held) n) (r .log) (r .kept) (now (buf .exit)) ⌝ }
+fn more(state: State, kept: Kept, n: usize, buf: &mut [u8], out: &mut [u8]) -> StateAfter
+    requires { ⌜ (kept .held ≤ n) × (kept .over ≡ true → kept .held ≡ 0) × (n ≤ length (now buf)) × (length (now buf) ≡ lineLimit + 1) × (64 ≤ length (now out)) × (state .number + n < 2 ^ 64) ⌝ }
+    ensures { λ r. ⌜ Came state (kept .over) (take (kept .held) (now (buf .entry))) (between (now (buf .entry)) (kept .held) n) (r .state) (r .kept) (now (buf .exit)) ⌝ }
 {
     if kept.over {
-        return tell_over(log, n, buf, out);
+        return tell_over(state, n, buf, out);
     }
-    tell_from(log, 0, n, buf, out)
+    tell_from(state, 0, n, buf, out)
 }
 
-// Writes what is told of the last line, where there is one: bytes that no line feed ends. Answers how many bytes that is.
-fn put_last(log: Log, kept: Kept, buf: &[u8], out: &mut [u8]) -> usize
-    requires { ⌜ (kept .held ≤ length (now buf)) × (64 ≤ length (now out)) ⌝ }
-    ensures { λ r. ⌜ Ended log (kept .over) (take (kept .held) (now (buf .entry))) (take r (now (out .exit))) × (r ≤ length (now (out .entry))) ⌝ }
+// Tells the last line, where there is one: bytes that no line feed ends. Answers what was sent then.
+fn tell_end(state: State, kept: Kept, buf: &[u8], out: &mut [u8]) -> Sent
+    requires { ⌜ (kept .held ≤ length (now buf)) × (64 ≤ length (now out)) × (state .number + 1 < 2 ^ 64) ⌝ }
+    ensures { λ r. ⌜ LastTold state (kept .over) (take (kept .held) (now (buf .entry))) r ⌝ }
 {
+    let log = state.log;
     let held = kept.held;
     if kept.over {
-        let s = meter_log_told::tell_long(log);
-        let told = s.told;
-        return meter_log_told::put_told(out, 0, told);
+        let long = meter_log_told::tell_long(log);
+        let p = tell_one(state, long, out);
+        return p.sent;
     }
     if held == 0 {
-        return 0;
+        return state.sent;
     }
-    let s = meter_log_told::tell_last(log, &buf[0..held]);
-    let told = s.told;
-    meter_log_told::put_told(out, 0, told)
+    let last = meter_log_told::tell_last(log, &buf[0..held]);
+    let q = tell_one(state, last, out);
+    q.sent
 }
 
-// After a read: how many bytes there are, and how many may yet be read, 0 after the end of the input.
-struct InputRead {
-    count: usize,
-    left: u64,
-}
-
-// Reads more, to stand after the `held` bytes of a line.
-fn read_more(buf: &mut [u8], held: usize, left: u64) -> InputRead
-    requires { ⌜ (held ≤ length (now buf)) × (0 < left) ⌝ }
-    ensures { λ r. ⌜ (held ≤ r .count) × (r .count ≤ length (now (buf .entry))) × (r .left < left) × (take held (now (buf .exit)) ≡ take held (now (buf .entry))) ⌝ }
+// Where the input ended its last line is told; where it may go on, what is held may be a part of a line, and is not.
+fn finish(brought: Brought, state: State, kept: Kept, buf: &[u8], out: &mut [u8]) -> Sent
+    requires { ⌜ (kept .held ≤ length (now buf)) × (64 ≤ length (now out)) × (state .number + 1 < 2 ^ 64) ⌝ }
+    ensures { λ r. ⌜ Finished brought state (kept .over) (take (kept .held) (now (buf .entry))) r ⌝ }
 {
-    let got = trial_bytes::read(buf, held, left);
-    let count = held + got;
-    if got == 0 {
-        return InputRead { count, left: 0 };
-    }
-    InputRead {
-        count,
-        left: left - got as u64,
+    match brought {
+        Brought::Ended => tell_end(state, kept, buf, out),
+        Brought::Some => state.sent,
+        Brought::Failed => state.sent,
+        Brought::Limit => state.sent,
     }
 }
 
-// Reads the input to its end and tells its whole lines. At most 2^64 - 1 bytes are read, so that it ends.
-fn tell_input(buf: &mut [u8], out: &mut [u8]) -> LogAfter
+// Whether to read on.
+fn again(brought: Brought, ok: bool) -> bool
+    ensures { λ r. ⌜ r ≡ goesOn brought && ok ⌝ }
+{
+    input::goes_on(brought) & ok
+}
+
+// Before the first line.
+fn first() -> State
+    ensures { λ r. ⌜ First r ⌝ }
+{
+    State {
+        log: Log::Start,
+        number: 0,
+        sent: output::none(),
+    }
+}
+
+// After the last read: the state, what is held, how many bytes were read, and what the last read brought.
+struct InputTold {
+    state: State,
+    kept: Kept,
+    total: u64,
+    brought: Brought,
+}
+
+// Reads until the input ends or a read or a write fails, and tells the whole lines.
+fn tell_input(fd: i32, buf: &mut [u8], out: &mut [u8]) -> InputTold
     requires { ⌜ (length (now buf) ≡ lineLimit + 1) × (64 ≤ length (now out)) ⌝ }
-    ensures { λ r. ⌜ Reached (r .log) (r .kept) (now (buf .exit)) × (r .kept .held < length (now (buf .entry))) ⌝ }
+    ensures { λ r. ⌜ Stopped r (now (buf .exit)) ⌝ }
 {
-    let mut log = Log::Start;
+    let mut state = first();
     let mut kept = Kept {
         over: false,
         held: 0,
     };
-    let mut left: u64 = 18446744073709551615;
-    while left != 0 {
-        let input = read_more(buf, kept.held, left);
-        let q = more(log, kept, input.count, buf, out);
-        let next = q.log;
-        log = next;
+    let mut total: u64 = 0;
+    loop {
+        let got = input::read(fd, buf, kept.held, total);
+        let q = more(state, kept, got.count, buf, out);
+        let s = q.state;
+        state = s;
         let k = q.kept;
         kept = k;
-        left = input.left;
+        total = got.total;
+        let brought = got.brought;
+        if !again(brought, s.sent.ok) {
+            return InputTold {
+                state,
+                kept,
+                total,
+                brought,
+            };
+        }
     }
-    LogAfter { log, kept }
 }
 
-pub fn run() {
+// How many bytes were read and sent, the latter modulo 2^64, and why it ended.
+pub struct Done {
+    pub total: u64,
+    pub sent: u64,
+    pub why: Why,
+}
+
+// Tells the log that the open file `fd` has.
+pub fn run(fd: i32) -> Done
+    ensures { λ r. ⌜ Ran r ⌝ }
+{
     let mut buf = io::large_buffer();
     let mut out = io::large_buffer();
-    let q = tell_input(&mut buf, &mut out);
-    let log = q.log;
+    let q = tell_input(fd, &mut buf, &mut out);
+    let state = q.state;
     let kept = q.kept;
-    let k = put_last(log, kept, &buf, &mut out);
-    trial_bytes::print(&out, k);
+    let brought = q.brought;
+    let sent = finish(brought, state, kept, &buf, &mut out);
+    Done {
+        total: q.total,
+        sent: sent.bytes,
+        why: tool::ended_by(brought, sent.ok),
+    }
 }

@@ -13,7 +13,7 @@ same-length-2 : tie.Need-same-length-2
 same-length-2 c = search needs
 
 returns : tie.Need-returns
-returns c = let p = c .before .before .before .before .before .before .before .before .before .before .pre in came-over _ _ _ _ (c .before .before .before .before .before .before .before .if1 .taken) (p .1 (c .before .before .before .before .before .before .before .if1 .taken)) (c .before .before .before .before .tell-over .ensures)
+returns c = let p = c .before .before .before .before .before .before .before .before .before .before .pre in let t = c .before .before .before .before .before .before .before .if1 .taken in came-over _ _ _ _ t (p .1 t) (c .before .before .before .before .tell-over .ensures)
 
 tell-from-requires : tie.Need-tell-from-requires
 tell-from-requires c κs = search needs
