@@ -25,7 +25,8 @@ import collections, os, statistics, subprocess, sys, time
 log, printed, program = sys.argv[1:]
 size = os.path.getsize(log) / 1e6
 with open(printed) as lines:
-    kinds = collections.Counter("entry" if line.startswith("5") else line.strip() for line in lines)
+    told = (line.strip().split(" ", 1)[1] for line in lines)
+    kinds = collections.Counter("entry" if said.startswith("5") else said for said in told)
 print("%.1f MB, %d lines: %s" % (size, kinds.total(), ", ".join("%d %s" % (n, kind) for kind, n in sorted(kinds.items()))))
 programs = {
     os.path.basename(program): [program],

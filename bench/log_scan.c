@@ -20,6 +20,15 @@ static void put(const char *text) {
     while (*text) out[used++] = *text++;
 }
 
+// The line's number and a space.
+static void put_line(unsigned long long n) {
+    char digits[20];
+    int k = 0;
+    for (; k == 0 || n; n /= 10) digits[k++] = '0' + n % 10;
+    while (k) out[used++] = digits[--k];
+    out[used++] = ' ';
+}
+
 static void put_number(int n) {
     if (n < 0) out[used++] = '-', n = -n;
     if (n >= 100) out[used++] = '0' + n / 100;
@@ -88,12 +97,14 @@ static void line(const char *p, const char *end) {
 int main(void) {
     enum { FIRST, LATER, UNKNOWN } state = FIRST; // unknown: under a first line that is over-long
     size_t held = 0;
+    unsigned long long number = 0;
     int skip = 0; // inside an over-long line
     for (ssize_t got; (got = read(0, in + held, SIZE - held)) > 0;) {
         char *p = in, *end = in + held + got, *feed;
         for (; (feed = memchr(p, '\n', end - p)); p = feed + 1) {
             char *stop = feed > p && feed[-1] == '\r' ? feed - 1 : feed;
             if (used > SIZE - 64) flush();
+            put_line(++number);
             if (skip || state == UNKNOWN) put("long\n");
             else if (state == FIRST) header(p, stop);
             else line(p, stop);
@@ -104,6 +115,7 @@ int main(void) {
         if (held == SIZE || skip) skip = 1, held = 0;
         else memmove(in, p, held);
     }
+    if (skip || held) put_line(++number);
     if (skip || (held && state == UNKNOWN)) put("long\n");
     else if (held && state == FIRST) header(in, in + held);
     else if (held) line(in, in + held);

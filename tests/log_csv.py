@@ -5,7 +5,7 @@ import csv
 import re
 import sys
 
-from meter_log import fields_of, too_long
+from meter_log import fields_of, numbered, too_long
 
 NAMES = ("cell", "flow", "temp")
 
@@ -20,7 +20,7 @@ TEMPS = spelled(range(-40, 86)) | {"-0": 0, "-00": 0, "-000": 0}
 
 
 def printed(log):
-    """What is printed for each record of a text file (opened with newline="", as csv asks). csv.Error where csv refuses a record."""
+    """What is told of each record of a text file (opened with newline="", as csv asks). csv.Error where csv refuses a record."""
     rows = csv.reader(log, strict=True)
     header = next(rows, None)
     if header is None:
@@ -56,4 +56,4 @@ def comparable(line, end):
 
 if __name__ == "__main__":
     sys.stdin.reconfigure(encoding="latin-1", newline="")  # each byte a character, no line end changed
-    sys.stdout.writelines(line + "\n" for line in printed(sys.stdin))
+    sys.stdout.write(numbered(printed(sys.stdin)))

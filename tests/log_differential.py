@@ -11,7 +11,7 @@ from itertools import product
 
 import log_draws
 from draws import Draws
-from meter_log import LONGEST, lines_of, run
+from meter_log import LONGEST, lines_of, numbered, run
 
 KINDS = ("header", "entry", "no 40", "no 41", "no 42", "long")
 
@@ -62,9 +62,9 @@ def compare(command, log, sizes=None, packets=False):
     """Raises Differs where the program and meter_log.py do."""
     expected = run(log)
     got = printed(command, log, sizes, packets)
-    if got == "".join(line + "\n" for line in expected):
+    if got == numbered(expected):
         return expected
-    for n, (line, right, wrong) in enumerate(zip(lines_of(log), expected, got.split("\n")), 1):
+    for n, (line, right, wrong) in enumerate(zip(lines_of(log), numbered(expected).split("\n"), got.split("\n")), 1):
         if right != wrong:
             raise Differs("line %d, %r and %d bytes: %r, not %r" % (n, line[0][:200], len(line[0]), wrong, right))
     raise Differs("%d lines expected, got %r at the end" % (len(expected), got[-80:]))

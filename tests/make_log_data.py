@@ -1,5 +1,6 @@
-"""Writes src/main.rt, stdin and stdout of the log programs (PROGRAMS below): logs, and what meter_log.py prints for them. What most of the
-logs give is written here by hand, and Python's csv module has to agree on every line where it can: `python3 tests/make_log_data.py`."""
+"""Writes data/, args and stdout of crates/log_export: logs (LOGS below), and what meter_log.py prints for them, one after the other. What
+most of the logs give is written here by hand, and Python's csv module has to agree on every line where it can:
+`python3 tests/make_log_data.py`."""
 
 import io
 import pathlib
@@ -8,15 +9,9 @@ import sys
 import log_csv
 import log_draws
 from draws import Draws
-from meter_log import LONGEST, fields_of, lines_of, run, too_long
+from meter_log import LONGEST, fields_of, lines_of, numbered, run, too_long
 
 EXPORT_HEADER = b'time,station,temp,"meter, type",cell,unit,flow,Flow,note,"cell"'
-MAIN = """\
-// The meters' log: %s.
-fn main() {
-    meter_log_io::run();
-}
-"""
 
 
 def row(temp=b"20", cell=b"3", flow=b"120", note=b"", first=b"2031-05-04 06:00", last=b"9", end=b"\r\n"):
@@ -140,18 +135,32 @@ def reads():
     return text, None
 
 
-PROGRAMS = {
-    "log_export": (export, "as loggers and spreadsheets write it, with every form of field", ("no 41", "no 42")),
-    "log_mark": (mark, "a byte order mark before another name", ("no 42",)),
-    "log_mark_cell": (mark_cell, "a byte order mark before `cell`", ("no 40",)),
-    "log_spaces": (spaces, "spaces before the names", ("no 40",)),
-    "log_twice": (twice, "`flow` named twice", ("no 40",)),
-    "log_unsound": (unsound, "a quote left open in the first line", ("no 40",)),
-    "log_wide": (wide, "a hundred columns", ("no 41", "no 42")),
-    "log_long": (long, "lines of 65,535 bytes and longer ones", ("no 41", "no 42", "long")),
-    "log_long_header": (long_header, "an over-long first line", ("long",)),
-    "log_reads": (reads, "more than three reads", ("no 41", "no 42")),
+def middle(size, feed):
+    """A log whose first `size` bytes end in the middle of a reading's flow, or with its line feed: a reading lost, or told in parts, shows."""
+    text, said = b"cell,flow,temp,note\n", ["header"]
+    last, split = b"14,253,-39,\n", 12 if feed else 4
+    while len(text) + 1000 < size:
+        text, said = text + filled(899, before=b"3,120,20,"), said + ["5 3 120 20"]
+    text, said = text + filled(size - split - len(text) - 1, before=b"3,120,20,"), said + ["5 3 120 20"]
+    text, said = text + last + b"15,254,85,\n13,252,-40,", said + ["5 14 253 -39", "5 15 254 85", "5 13 252 -40"]
+    assert text[:size].endswith(last[:split])
+    return text, said
+
+
+# file: the log, and what some of its lines give
+LOGS = {
+    "export.csv": (export, ("no 41", "no 42")),
+    "mark.csv": (mark, ("no 42",)),
+    "mark_cell.csv": (mark_cell, ("no 40",)),
+    "spaces.csv": (spaces, ("no 40",)),
+    "twice.csv": (twice, ("no 40",)),
+    "unsound.csv": (unsound, ("no 40",)),
+    "wide.csv": (wide, ("no 41", "no 42")),
+    "long.csv": (long, ("no 41", "no 42", "long")),
+    "long_header.csv": (long_header, ("long",)),
+    "reads.csv": (reads, ("no 41", "no 42")),
 }
+LOGS |= {"%s_%d.csv" % (what, size): (lambda size=size, feed=what == "feed": middle(size, feed), ()) for what in ("middle", "feed") for size in (65535, 65536, 65537)}
 
 
 def by_csv(log, printed):
@@ -168,20 +177,22 @@ def by_csv(log, printed):
 
 
 def main():
-    crates = pathlib.Path(sys.argv[1] if len(sys.argv) > 1 else pathlib.Path(__file__).parents[1] / "crates")
-    for name, (make, what, wanted) in PROGRAMS.items():
+    crate = pathlib.Path(sys.argv[1] if len(sys.argv) > 1 else pathlib.Path(__file__).parents[1] / "crates" / "log_export")
+    (crate / "data").mkdir(parents=True, exist_ok=True)
+    out = ""
+    for name, (make, wanted) in LOGS.items():
         log, by_hand = make()
-        printed = run(log)
-        for line, said, right_one in zip(lines_of(log), printed, by_hand or printed):
+        told = run(log)
+        for line, said, right_one in zip(lines_of(log), told, by_hand or told):
             assert said == right_one, (name, line, said, right_one)
-        assert len(printed) == len(by_hand or printed) and set(wanted) <= set(printed), name
-        same = by_csv(log, printed)
-        (crates / name / "src").mkdir(parents=True, exist_ok=True)
-        (crates / name / "src" / "main.rt").write_text(MAIN % what)
-        (crates / name / "stdin").write_bytes(log)
-        (crates / name / "stdout").write_text("".join(line + "\n" for line in printed))
-        made = sum(line.startswith("5") for line in printed)
-        print("%s: %d lines, %d bytes, %d entries, %d lines as csv reads them" % (name, len(printed), len(log), made, same))
+        assert len(told) == len(by_hand or told) and set(wanted) <= set(told), name
+        same = by_csv(log, told)
+        (crate / "data" / name).write_bytes(log)
+        out += numbered(told)
+        made = sum(line.startswith("5") for line in told)
+        print("%s: %d lines, %d bytes, %d entries, %d lines as csv reads them" % (name, len(told), len(log), made, same))
+    (crate / "args").write_text("".join(name + "\n" for name in LOGS))
+    (crate / "stdout").write_text(out)
 
 
 if __name__ == "__main__":

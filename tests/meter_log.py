@@ -1,4 +1,4 @@
-"""The meters' log by column name (document 02, Q-5), and what the log programs (those of make_log_data.py) print for it:
+"""The meters' log by column name (document 02, Q-5), and what the log program (crates/log_export) prints for it:
 `python3 tests/meter_log.py < log`. Commas that separate are told by counting quotes, and fields by what they look like."""
 
 import os
@@ -58,7 +58,7 @@ def read(columns, line):
 
 
 def run(log):
-    """What is printed, line by line. Under a first line that is over-long no column is known."""
+    """What is told, line by line. Under a first line that is over-long no column is known."""
     lines = lines_of(log)
     if not lines or too_long(*lines[0]):
         return ["long"] * len(lines)
@@ -67,10 +67,15 @@ def run(log):
     return ["header" if columns else "no 40"] + later
 
 
+def numbered(told):
+    """What is printed: each after its line's number, the first line's being 1."""
+    return "".join("%d %s\n" % (n, said) for n, said in enumerate(told, 1))
+
+
 def standard_input():
     """All of it, in reads of 64 KiB, so that each takes the whole of a packet (log_differential.py)."""
     return b"".join(iter(lambda: os.read(0, 65536), b""))
 
 
 if __name__ == "__main__":
-    sys.stdout.writelines(line + "\n" for line in run(standard_input()))
+    sys.stdout.write(numbered(run(standard_input())))
