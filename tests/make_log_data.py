@@ -136,7 +136,8 @@ def reads():
 
 
 def middle(size, feed):
-    """A log whose first `size` bytes end in the middle of a reading's flow, or with its line feed: a reading lost, or told in parts, shows."""
+    """A log whose first `size` bytes end in the middle of a reading's flow, or with its line feed: a reading that is lost or told in parts
+    shows."""
     text, said = b"cell,flow,temp,note\n", ["header"]
     last, split = b"14,253,-39,\n", 12 if feed else 4
     while len(text) + 1000 < size:
@@ -160,7 +161,9 @@ LOGS = {
     "long_header.csv": (long_header, ("long",)),
     "reads.csv": (reads, ("no 41", "no 42")),
 }
-LOGS |= {"%s_%d.csv" % (what, size): (lambda size=size, feed=what == "feed": middle(size, feed), ()) for what in ("middle", "feed") for size in (65535, 65536, 65537)}
+for size in (65535, 65536, 65537):
+    LOGS["middle_%d.csv" % size] = (lambda size=size: middle(size, False), ())
+    LOGS["feed_%d.csv" % size] = (lambda size=size: middle(size, True), ())
 
 
 def by_csv(log, printed):
