@@ -1,5 +1,5 @@
-"""Why each edit of crates/progress/must-fail makes `NoHalt` false: a list of actions that halts a client in the run so edited, and does not in the
-run as document 01 has it.
+"""Why each edit of crates/progress/must-fail makes `NoHalt` false: a list of actions that halts a client in the run so
+edited, and halts none in the run as document 01 has it.
 
   tests/wrong_runs.py          runs each list both ways, by cop.py
 """
@@ -72,18 +72,18 @@ class World:
         return outcome
 
     def run(self, actions):
-        """What the actions tell, in order: m a van makes an entry, s the relay takes its head, d the van takes its own."""
+        """What the actions tell, in order: m van makes an entry, s the relay takes its head, d it takes its own."""
         do = {"m": self.make, "s": self.serve, "d": self.deliver}
         return [do[a[0]](int(a[1])) for a in actions.split()]
 
 
-# Van v's operation made, placed, answered and passed on.
 def whole(v):
+    """An entry of van v made, placed, answered and passed on."""
     return f"m{v} s{v} d{v} s{v} "
 
 
 RUNS = {
-    # both vans' operations are passed on before van 3 takes anything: BR 2 then stands before BR 1
+    # places 1 and 2 are passed on before van 3 takes anything: BR 2 then stands before BR 1
     "broadcast_in_front": (whole(1) + "d1 " + "m1 s1 d1 s1 " + "d3", 25),
     # van 2 gets no BR: its second RE begins at place 2, which it takes for place 1 and holds otherwise
     "broadcast_to_one": (whole(2) + "m2 s2 d2", 23),
@@ -108,7 +108,8 @@ RUNS = {
 
 def main():
     edits = {f.stem for f in (Path(__file__).parent.parent / "crates/progress/must-fail").glob("*.edit")}
-    bad = [f"{name}: not here" for name in edits - RUNS.keys()] + [f"{name}: no such edit" for name in RUNS.keys() - edits]
+    bad = [f"{name}: no list here" for name in edits - RUNS.keys()]
+    bad += [f"{name}: no such edit" for name in RUNS.keys() - edits]
     for name, (actions, number) in RUNS.items():
         wrong, right = World(name).run(actions), World().run(actions)
         if wrong[-1] != ("halt", number):
