@@ -140,6 +140,7 @@ def write_list(named, why):
         head.append(line)
     out = head + [""]
     for ident, edits in named.items():
+        edits = list(dict.fromkeys(edits))
         out.append(f"[{ident}]")
         for crate in dict.fromkeys(e.split("/")[0] for e in edits):
             out += wrapped(f"{crate}: " + " ".join(e.split("/")[1] for e in edits if e.split("/")[0] == crate))
