@@ -42,10 +42,27 @@ fn logs() {
 
 fn help() {
     tool::help(
-        b"log_export [FILE...]\n\nReads meters' logs, comma separated, and prints a line for each of their lines. Reads standard\ninput where no file is named, or for `-`. Each file is a log of its own, with its own first line.\n\nThe first line names the columns; `cell`, `flow` and `temp` are each there once. Prints\n\n  1 header          the first line, its columns found\n  2 5 3 120 -12     a reading: cell 3, flow 120, temperature -12 (kind 5: amount and temperature)\n  3 no 42           a line refused: 40 the first line lacks a name or has it twice, 41 quotes or\n                    the number of fields are wrong, 42 a number is none or out of range\n  4 long            a line of 65,536 bytes or more\n\n",
-    );
-    tool::help(
-        b"each after the number of the line in its file. A file that cannot be opened or read is told on\nstandard error, and the next one is read; after a failed write nothing more is. What was printed\nbefore stands. The exit status is always 0: look at standard error.\n",
+        b"usage: log_export [FILE]...\n\
+\n\
+Reads meters' logs and prints a line for each of their lines.\n\
+Reads the files in order, each as a log of its own; - is standard input, which is\n\
+read too where no file is named. Numbers of lines begin again with each file.\n\
+\n\
+A line has fields parted by commas; a field with commas stands in quotes. The first\n\
+line names the columns, `cell`, `flow` and `temp` among them, each once.\n\
+\n\
+Prints for each line its number, and one of\n  \
+header              the first line: the columns were found\n  \
+5 CELL FLOW TEMP    a reading, as an operation of kind 5\n  \
+no 40               the first line lacks a name, has one twice, or its quotes are\n                      \
+not sound; and each line under it\n  \
+no 41               its quotes are not sound, or it has other fields than the first\n  \
+no 42               a value is no number, or out of range: cell 0 to 15,\n                      \
+flow 0 to 255, temperature -40 to 85\n  \
+long                it has 65,536 bytes or more, or the first line has\n\
+\n\
+A file that cannot be opened or read is told on standard error, and the next is\n\
+read; after a write that fails nothing is. There is no exit status: it is always 0.\n",
     );
 }
 
