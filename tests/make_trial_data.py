@@ -1,4 +1,4 @@
-"""Writes stdin and stdout of the trial programs, crates/trial and those whose names begin so: lines of input, and what trial.py prints for them."""
+"""Writes the trial program's cases, crates/trial: data/ (inputs), args (their names, in order) and stdout (what trial.py prints for one after the other)."""
 
 import pathlib
 import sys
@@ -96,13 +96,36 @@ def drawn():
     return join(lines)
 
 
-PROGRAMS = {
-    "trial": (listing, ("placed", "answer", "aside", "confirm")),
-    "trial_pending": (pending, ("placed", "answer", "confirm", "empty", "no 4", "no 33")),
-    "trial_full": (full, ("placed", "answer", "failed", "confirm", "empty", "full", "bad")),
-    "trial_bad": (bad, ("placed", "answer", "confirm", "empty", "no 5", "bad")),
-    "trial_drawn": (drawn, ("placed", "answer", "failed", "aside", "confirm", "empty", "no 4", "no 5", "bad")),
+def filler(size):
+    """Lines of that many bytes in all, each `bad`."""
+    lines = [10000] * ((size - 1) // 10000)
+    return b"".join(b"X" * (n - 1) + b"\n" for n in lines + [size - sum(lines)])
+
+
+def at(before, line, end):
+    """Lines, then one whose line feed is the input's byte `end`, counted from 1, then deliveries that show what it did. A first read has 65,536 bytes."""
+    start = end - len(line) - 1
+    return before + filler(start - len(before)) + join([line, deliver(1), deliver(1), deliver(2)])
+
+
+def invoke_at(end):
+    return lambda: at(b"", invoke(1, 4, 0, 7), end)
+
+
+def deliver_at(end):
+    return lambda: at(join([invoke(1, 4, 0, 7)]), deliver(1), end)
+
+
+ENDS = (65535, 65536, 65537)  # about a buffer: a line that ends there; at 65,541 each of these is inside the line
+CASES = {
+    "listing": (listing, ("placed", "answer", "aside", "confirm")),
+    "pending": (pending, ("placed", "answer", "confirm", "empty", "no 4", "no 33")),
+    "full": (full, ("placed", "answer", "failed", "confirm", "empty", "full", "bad")),
+    "bad": (bad, ("placed", "answer", "confirm", "empty", "no 5", "bad")),
+    "drawn": (drawn, ("placed", "answer", "failed", "aside", "confirm", "empty", "no 4", "no 5", "bad")),
 }
+CASES.update(("invoke_%d" % end, (invoke_at(end), ("placed", "answer", "confirm", "bad"))) for end in ENDS + (65541,))
+CASES.update(("deliver_%d" % end, (deliver_at(end), ("placed", "answer", "confirm", "bad"))) for end in ENDS)
 
 
 def kind_of(line):
@@ -114,16 +137,19 @@ def kind_of(line):
 
 
 def main():
-    crates = pathlib.Path(sys.argv[1] if len(sys.argv) > 1 else pathlib.Path(__file__).parents[1] / "crates")
-    for name, (make, wanted) in PROGRAMS.items():
+    crate = pathlib.Path(sys.argv[1] if len(sys.argv) > 1 else pathlib.Path(__file__).parents[1] / "crates") / "trial"
+    (crate / "data").mkdir(parents=True, exist_ok=True)
+    out = []
+    for name, (make, wanted) in CASES.items():
         data = make()
         printed = run(lines_of(data))
         words = {kind_of(line) for line in printed}
         assert set(wanted) <= words, (name, set(wanted) - words)
-        (crates / name).mkdir(parents=True, exist_ok=True)
-        (crates / name / "stdin").write_bytes(data)
-        (crates / name / "stdout").write_text("".join(line + "\n" for line in printed))
+        (crate / "data" / name).write_bytes(data)
+        out += printed
         print("%s: %d lines, %d bytes: %s" % (name, len(printed), len(data), ", ".join(sorted(words))))
+    (crate / "args").write_text("".join(name + "\n" for name in CASES))
+    (crate / "stdout").write_text("".join(line + "\n" for line in out))
 
 
 if __name__ == "__main__":
