@@ -2,6 +2,7 @@
 // Definitions: specs/Sends.antt.
 use libc::STDOUT_FILENO;
 ghost use mathlib.Core.Path.{_≡_};
+ghost use mathlib.Core.Bool.{true};
 ghost use Prim.Native.Nat.{_+_, _%_, _^_, _≤_};
 ghost use lib.ListN.{length};
 ghost use Rattle.output.specs.Sends.{Sends};
@@ -28,7 +29,7 @@ pub fn add(bytes: u64, n: usize) -> u64
 
 // Nothing printed yet.
 pub fn none() -> Sent
-    ensures { λ r. ⌜ r .bytes ≡ 0 ⌝ }
+    ensures { λ r. ⌜ (r .bytes ≡ 0) × (r .ok ≡ true) ⌝ }
 {
     Sent { ok: true, bytes: 0 }
 }

@@ -23,7 +23,7 @@ none-requires : tie.Need-none-requires Inv-loop μ-loop
 none-requires c κs = search needs
 
 loop-holds : tie.Need-loop-holds Inv-loop μ-loop
-loop-holds c = (going-none _ _ _ _ (c .before .start .ensures) (c .before .before .before .before .pre .2) (c .none .ensures) (c .before .before .before .before .pre .0), refl)
+loop-holds c = (going-none _ _ _ _ (c .before .start .ensures) (c .before .before .before .before .pre .2) (c .none .ensures .0) (c .before .before .before .before .pre .0), refl)
 
 read-requires : tie.Need-read-requires Inv-loop μ-loop
 read-requires c κs = search needs
