@@ -1,23 +1,8 @@
-// What the trial program reads, keeps and prints, as bytes. Definitions: specs/Held.antt.
-use libc::STDIN_FILENO;
-use libc::STDOUT_FILENO;
+// What the trial program holds of its input, as bytes. Definitions: specs/Held.antt.
 ghost use mathlib.Core.Path.{_≡_};
 ghost use Prim.Native.Nat.{_+_, _-_, _≤_, _<_};
 ghost use lib.ListN.{length, take};
 ghost use Rattle.trial_bytes.specs.Held.{Ends, Keeps};
-
-// One read, of bytes to stand after the first `held`; 0 at the end of the input, where it fails, and where no more than a buffer of
-// bytes may yet be read.
-pub fn read(buf: &mut [u8], held: usize, left: u64) -> usize
-    requires { ⌜ (held ≤ length (now buf)) × (0 < left) ⌝ }
-    ensures { λ r. ⌜ (held + r ≤ length (now (buf .entry))) × (r < left) × (take held (now (buf .exit)) ≡ take held (now (buf .entry))) ⌝ }
-{
-    if left <= buf.len() as u64 {
-        return 0;
-    }
-    let got = libc::read(STDIN_FILENO, &mut buf[held..]);
-    io::count(got, &buf[held..])
-}
 
 // At the end of the input: a line feed after the bytes held, where there are any. How many bytes there are then.
 pub fn end_line(buf: &mut [u8], held: usize) -> usize
@@ -51,11 +36,4 @@ pub fn keep(buf: &mut [u8], from: usize, to: usize) -> usize
 {
     shifts::to_front(buf, from, to);
     over_long(buf, to - from)
-}
-
-// Prints the first `n` bytes.
-pub fn print(out: &[u8], n: usize)
-    requires { ⌜ n ≤ length (now out) ⌝ }
-{
-    io::write_all(STDOUT_FILENO, &out[0..n]);
 }
