@@ -13,12 +13,12 @@ use Rattle.text.proofs.Joins.{last-piece, last-goes-on}
 use Rattle.input.specs.declared.Input.{Input}
 use Rattle.input.specs.Reads.{goesOn, Reads}
 use Rattle.meter_log_lines.specs.Lines.{runWhole}
-use Rattle.meter_log_io.specs.declared.State.{State}
-use Rattle.meter_log_io.specs.declared.Kept.{Kept}
-use Rattle.meter_log_io.specs.Whole.{between, Stands, all, over, First, Past, AllTold, Came}
+use Rattle.meter_log_parts.specs.declared.State.{State}
+use Rattle.meter_log_parts.specs.declared.Kept.{Kept}
+use Rattle.meter_log_parts.specs.Whole.{between, Stands, all, over, First, Past, AllTold, Came}
 use Rattle.meter_log_io.specs.Ran.{Reached, Stopped}
 use Rattle.meter_log_io.proofs.Sizes.{past-few}
-use Rattle.meter_log_io.proofs.Laws.{sends-none, runs, sent-both}
+use Rattle.meter_log_parts.proofs.Laws.{sends-none, runs, sent-both}
 
 -- more bytes came, by the contract of `more`: all is told of them together
 module _ {w₀ : State} {t : List ℕ} {w : State} {p : List ℕ} (i : Past w₀ t p w) {o : Bool} {s x : List ℕ} {w′ : State} {k : Kept} {buf′ : List ℕ} (c : Came w o s x w′ k buf′) (h : Stands o s p) where

@@ -15,12 +15,12 @@ use Rattle.output.specs.Sends.{Sends}
 use Rattle.output.proofs.Laws.{sends-join}
 use Rattle.meter_log_lines.specs.Lines.{Run, runWhole}
 use Rattle.meter_log_lines.specs.Printed.{runLast, runInput, atStart, printedOf, fed, printedWhole}
-use Rattle.meter_log_io.specs.declared.State.{State}
+use Rattle.meter_log_parts.specs.declared.State.{State}
 use Rattle.meter_log_io.specs.declared.InputTold.{InputTold}
 use Rattle.tool.specs.declared.Why.{Why}
 use Rattle.tool.specs.declared.Why.the-variants as W
 use Rattle.tool.specs.Tool.{whyOf}
-use Rattle.meter_log_io.specs.Whole.{runAt, First, Past, LastTold, Finished}
+use Rattle.meter_log_parts.specs.Whole.{runAt, First, Past, LastTold, Finished}
 use Rattle.meter_log_io.specs.Ran.{Stopped, Ran}
 
 -- ---- why it ended, by what the last read brought and whether all writes succeeded

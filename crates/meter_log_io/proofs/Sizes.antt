@@ -9,8 +9,8 @@ use Rattle.text.specs.Text.{onFirst, cut}
 use Rattle.text.proofs.Laws.{either}
 use Rattle.meter_log_told.specs.Told.{tellWhole}
 use Rattle.meter_log_lines.specs.Lines.{Run, advance, runWhole}
-use Rattle.meter_log_io.specs.declared.State.{State}
-use Rattle.meter_log_io.specs.Whole.{runAt, Past}
+use Rattle.meter_log_parts.specs.declared.State.{State}
+use Rattle.meter_log_parts.specs.Whole.{runAt, Past}
 
 -- the bytes of pieces, each with what parts it from the next
 unfoldable sizes : List (List ℕ) → ℕ

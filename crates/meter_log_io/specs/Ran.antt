@@ -9,11 +9,11 @@ use Rattle.input.specs.declared.Brought.the-variants as B
 use Rattle.input.specs.Reads.{goesOn}
 use Rattle.tool.specs.declared.Why.the-variants as W
 use Rattle.meter_log_lines.specs.Printed.{printedOf, printedWhole}
-use Rattle.meter_log_io.specs.declared.State.{State}
-use Rattle.meter_log_io.specs.declared.Kept.{Kept}
+use Rattle.meter_log_parts.specs.declared.State.{State}
+use Rattle.meter_log_parts.specs.declared.Kept.{Kept}
 use Rattle.meter_log_io.specs.declared.InputTold.{InputTold}
 use Rattle.meter_log_io.specs.declared.Done.{Done}
-use Rattle.meter_log_io.specs.Whole.{Stands, First, Past}
+use Rattle.meter_log_parts.specs.Whole.{Stands, First, Past}
 
 -- `total` bytes were read: state and what is held are those of an input of as many bytes, all of whose whole lines were told and sent
 pub record Reached (w : State) (k : Kept) (buf : List ℕ) (total : ℕ) : Type 0 where

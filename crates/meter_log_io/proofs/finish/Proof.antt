@@ -2,7 +2,7 @@ use Prim.Native.Nat.{ℕ}
 use mathlib.Core.Path.{_≡_}
 use native.Mathlib.Omega.{arith}
 use borrow.Author.Needs.{needs}
-use Rattle.meter_log_io.proofs.Laws.{finished, finished-not}
+use Rattle.meter_log_parts.proofs.Laws.{finished, finished-not}
 use Rattle.meter_log_io.proofs.finish.Statement.{statement}
 use Rattle.meter_log_io.proofs.finish.Tie as tie
 

@@ -3,9 +3,9 @@ use mathlib.Core.Path.{_≡_}
 use native.Mathlib.Omega.{arith}
 use lib.ListN.{length, drop, length-take}
 use borrow.Author.Needs.{needs}
-use Rattle.meter_log_io.proofs.Laws.{Passing, passing-none, passing-more, passing-past}
-use Rattle.meter_log_io.proofs.tell_between.Statement.{statement}
-use Rattle.meter_log_io.proofs.tell_between.Tie as tie
+use Rattle.meter_log_parts.proofs.Laws.{Passing, passing-none, passing-more, passing-past}
+use Rattle.meter_log_parts.proofs.tell_between.Statement.{statement}
+use Rattle.meter_log_parts.proofs.tell_between.Tie as tie
 
 abbrev Inv-loop : tie.InvT-loop
 Inv-loop from n buf out₀ log₀ number₀ sent₀ at₀ used₀ out log number sent at used =

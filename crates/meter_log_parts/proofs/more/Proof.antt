@@ -1,7 +1,7 @@
 use borrow.Author.Needs.{needs}
-use Rattle.meter_log_io.proofs.Laws.{came-over, came-held}
-use Rattle.meter_log_io.proofs.more.Statement.{statement}
-use Rattle.meter_log_io.proofs.more.Tie as tie
+use Rattle.meter_log_parts.proofs.Laws.{came-over, came-held}
+use Rattle.meter_log_parts.proofs.more.Statement.{statement}
+use Rattle.meter_log_parts.proofs.more.Tie as tie
 
 tell-over-requires : tie.Need-tell-over-requires
 tell-over-requires c κs = search needs

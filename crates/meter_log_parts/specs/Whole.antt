@@ -15,8 +15,8 @@ use Rattle.meter_log_told.specs.Told.{lineLimit}
 use Rattle.meter_log_put.specs.Text.{toldBytes}
 use Rattle.meter_log_lines.specs.Lines.{Run, runWhole}
 use Rattle.meter_log_lines.specs.Printed.{runLast}
-use Rattle.meter_log_io.specs.declared.State.{State}
-use Rattle.meter_log_io.specs.declared.Kept.{Kept}
+use Rattle.meter_log_parts.specs.declared.State.{State}
+use Rattle.meter_log_parts.specs.declared.Kept.{Kept}
 
 -- the bytes of a buffer from `from` to n
 abbrev pub between : List ℕ → ℕ → ℕ → List ℕ

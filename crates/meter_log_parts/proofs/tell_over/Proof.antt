@@ -1,9 +1,9 @@
 use Prim.Native.Nat.{_+_, _≤_}
 use native.Mathlib.Omega.{arith}
 use borrow.Author.Needs.{needs}
-use Rattle.meter_log_io.proofs.Laws.{over-within, over-all, over-to}
-use Rattle.meter_log_io.proofs.tell_over.Statement.{statement}
-use Rattle.meter_log_io.proofs.tell_over.Tie as tie
+use Rattle.meter_log_parts.proofs.Laws.{over-within, over-all, over-to}
+use Rattle.meter_log_parts.proofs.tell_over.Statement.{statement}
+use Rattle.meter_log_parts.proofs.tell_over.Tie as tie
 
 sub-find : tie.Need-sub-find
 sub-find c = search needs

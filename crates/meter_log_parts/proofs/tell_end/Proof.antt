@@ -4,9 +4,9 @@ use native.Mathlib.Omega.{arith}
 use lib.ListN.{take}
 use borrow.Author.Needs.{needs}
 use Rattle.meter_log_told.specs.Told.{tellLast}
-use Rattle.meter_log_io.proofs.Laws.{held-none, held-some, ended-none, ended-over, ended-last}
-use Rattle.meter_log_io.proofs.tell_end.Statement.{statement}
-use Rattle.meter_log_io.proofs.tell_end.Tie as tie
+use Rattle.meter_log_parts.proofs.Laws.{held-none, held-some, ended-none, ended-over, ended-last}
+use Rattle.meter_log_parts.proofs.tell_end.Statement.{statement}
+use Rattle.meter_log_parts.proofs.tell_end.Tie as tie
 
 tell-long-requires : tie.Need-tell-long-requires
 tell-long-requires c κs = search needs

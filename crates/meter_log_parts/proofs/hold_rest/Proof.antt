@@ -1,9 +1,9 @@
 use mathlib.Core.Bool.{true≢false}
 use mathlib.Core.Path.{sym}
 use borrow.Author.Needs.{needs}
-use Rattle.meter_log_io.proofs.Laws.{keeps-over, keeps-all}
-use Rattle.meter_log_io.proofs.hold_rest.Statement.{statement}
-use Rattle.meter_log_io.proofs.hold_rest.Tie as tie
+use Rattle.meter_log_parts.proofs.Laws.{keeps-over, keeps-all}
+use Rattle.meter_log_parts.proofs.hold_rest.Statement.{statement}
+use Rattle.meter_log_parts.proofs.hold_rest.Tie as tie
 
 to-front-requires : tie.Need-to-front-requires
 to-front-requires c κs = search needs

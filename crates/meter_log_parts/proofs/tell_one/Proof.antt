@@ -1,7 +1,7 @@
 use borrow.Author.Needs.{needs}
-use Rattle.meter_log_io.proofs.Laws.{one-more}
-use Rattle.meter_log_io.proofs.tell_one.Statement.{statement}
-use Rattle.meter_log_io.proofs.tell_one.Tie as tie
+use Rattle.meter_log_parts.proofs.Laws.{one-more}
+use Rattle.meter_log_parts.proofs.tell_one.Statement.{statement}
+use Rattle.meter_log_parts.proofs.tell_one.Tie as tie
 
 add-number : tie.Need-add-number
 add-number c = search needs

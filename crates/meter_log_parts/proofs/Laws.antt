@@ -27,9 +27,9 @@ use Rattle.meter_log_lines.specs.declared.TextTold.{TextTold}
 use Rattle.meter_log_lines.specs.Lines.{Run, runWhole, Tells}
 use Rattle.meter_log_lines.specs.Printed.{runLast}
 use Rattle.meter_log_lines.proofs.Laws.{run-then}
-use Rattle.meter_log_io.specs.declared.State.{State}
-use Rattle.meter_log_io.specs.declared.Kept.{Kept}
-use Rattle.meter_log_io.specs.Whole.{between, Stands, all, over, runAt, Past, OneMore, AllTold, Came, LastTold, Finished}
+use Rattle.meter_log_parts.specs.declared.State.{State}
+use Rattle.meter_log_parts.specs.declared.Kept.{Kept}
+use Rattle.meter_log_parts.specs.Whole.{between, Stands, all, over, runAt, Past, OneMore, AllTold, Came, LastTold, Finished}
 
 -- nothing more was sent
 pub sends-none : (s : Sent) → s .bytes < 2 ^ 64 → Sends s 0 s
