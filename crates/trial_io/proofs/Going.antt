@@ -23,7 +23,7 @@ use Rattle.trial_bytes.specs.Held.{Ends}
 use Rattle.trial_io.specs.declared.Reading.{Reading}
 use Rattle.trial_io.specs.declared.Done.{Done}
 use Rattle.trial_io.specs.Printed.{printedOf, printedWhole}
-use Rattle.trial_io.specs.Whole.{Whole}
+use Rattle.trial_buffer.specs.Whole.{Whole}
 use Rattle.trial_io.specs.Reached.{Reached, ReachedBy, ReadTo, Ran, atEnd}
 use Rattle.trial_io.proofs.Reached.{reached-none, reached-more, sent-whole, sent-all}
 

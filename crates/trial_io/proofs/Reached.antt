@@ -19,9 +19,9 @@ use Rattle.trial_core.specs.Trial.{Lent, startTrial, startLent}
 use Rattle.trial_bytes.specs.Held.{heldOf, lastLine}
 use Rattle.trial_lines.specs.Lines.{Run, nextRun, runLines, linesOf}
 use Rattle.trial_io.specs.Printed.{lineOf, ended, counted, runOf, printedOf, printedWhole}
-use Rattle.trial_io.specs.Whole.{Whole}
+use Rattle.trial_buffer.specs.Whole.{Whole}
 use Rattle.trial_io.specs.Reached.{Over, Stands, Reached}
-use Rattle.trial_io.proofs.Laws.{behind, run-behind, run-append}
+use Rattle.trial_buffer.proofs.Laws.{behind, run-behind, run-append}
 use Rattle.trial_io.proofs.OverLong.{over-long-held}
 use Rattle.trial_io.proofs.Pieces.{First, first-of, lines-short, ended-lines, counted-none, counted-some, ended-feed}
 

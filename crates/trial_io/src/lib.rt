@@ -1,69 +1,16 @@
-// The trial program of document 01: lines of an input to its end, and a line for each on standard output. What is printed for which line
-// is the contract of `trial_lines::answers`; what is held of a line that is not yet whole, and of one that is over-long, that of
-// `trial_bytes::keep`. Here is the loop that reads and prints. Definitions: specs/Printed.antt, what an input prints; specs/Whole.antt,
-// the lines of a buffer; specs/Reached.antt, all that was read. That the bytes of a line are those of its word in trial_laws is
-// proofs/Printed.antt, that an over-long line is of another form proofs/OverLong.antt.
+// The trial program of document 01: lines of an input to its end, and a line for each on standard output. Here is the loop that reads.
+// Definitions: specs/Printed.antt, what an input prints; specs/Reached.antt, all that was read. That the bytes of a line are those of its
+// word in trial_laws is the crate trial_printed; that an over-long line is of another form, proofs/OverLong.antt.
 use input::Brought;
-use output::Sent;
 use tool::Why;
-use trial_core::Trial;
+use trial_buffer::After;
 ghost use mathlib.Core.Path.{_≡_};
 ghost use Prim.Native.Nat.{_+_, _≤_, _<_, _^_};
 ghost use lib.ListN.{length, take, replicate};
 ghost use Rattle.trial_core.specs.Moves.{lentOf};
 ghost use Rattle.trial_core.specs.Trial.{startLent};
 ghost use Rattle.trial_core.specs.Sizes.{logLength, repliesLength, invokesLength};
-ghost use Rattle.trial_io.specs.Whole.{Whole};
 ghost use Rattle.trial_io.specs.Reached.{ReadTo, Ran, atEnd};
-
-// After the lines of the buffer: the trial, how many lines there were, how many bytes are held that are not yet a line, and what was sent.
-struct After {
-    trial: Trial,
-    number: u64,
-    held: usize,
-    sent: Sent,
-}
-
-// Answers the whole lines among the first `n` bytes, the first as line `first` + 1, and prints what they give; what stands after them is
-// held. `answers` stops where `out` has little room, so it is called until it uses nothing.
-fn whole_lines(
-    start: Trial,
-    first: u64,
-    before: Sent,
-    n: usize,
-    buf: &mut [u8],
-    out: &mut [u8],
-    log: &mut [u8; trial_core::LOG_LENGTH],
-    replies: &mut [u8; trial_core::REPLIES_LENGTH],
-    invokes: &mut [u8; trial_core::INVOKES_LENGTH],
-) -> After
-    requires { ⌜ (n ≤ length (now buf)) × (1 < length (now buf)) × (64 ≤ length (now out)) × (first + n < 2 ^ 64) ⌝ }
-    ensures { λ r. ⌜ Whole start (lentOf (now (log .entry)) (now (replies .entry)) (now (invokes .entry))) (now (buf .entry)) first before n
-        (r .trial) (lentOf (now (log .exit)) (now (replies .exit)) (now (invokes .exit))) (now (buf .exit)) (r .number) (r .sent) (r .held) ⌝ }
-{
-    let mut trial = start;
-    let mut number = first;
-    let mut sent = before;
-    let mut at = 0;
-    let mut used = 1;
-    while used != 0 {
-        let q = trial_lines::answers(trial, number, &buf[at..n], out, log, replies, invokes);
-        let after = q.trial;
-        trial = after;
-        number += q.count;
-        used = q.used;
-        at += used;
-        let more = output::send(out, q.filled, sent);
-        sent = more;
-    }
-    let held = trial_bytes::keep(buf, at, n);
-    After {
-        trial,
-        number,
-        held,
-        sent,
-    }
-}
 
 // After the reads: what the lines left, how many bytes were read, and what the last read brought.
 struct Reading {
@@ -97,7 +44,7 @@ fn read_lines(
         total = got.total;
         let b = got.brought;
         brought = b;
-        let q = whole_lines(
+        let q = trial_buffer::whole_lines(
             trial,
             number,
             sent,
@@ -183,7 +130,7 @@ pub fn run(fd: i32) -> Done
     if at_end(why) {
         let trial = after.trial;
         let n = trial_bytes::end_line(&mut buf, after.held);
-        let last = whole_lines(
+        let last = trial_buffer::whole_lines(
             trial,
             after.number,
             sent,

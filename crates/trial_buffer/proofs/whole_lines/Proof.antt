@@ -4,9 +4,9 @@ use native.Mathlib.Omega.{arith}
 use borrow.Author.Needs.{needs}
 use lib.ListN.{length}
 use Rattle.trial_core.specs.Moves.{lentOf}
-use Rattle.trial_io.proofs.Laws.{Passed, passed-none, passed-more, whole}
-use Rattle.trial_io.proofs.whole_lines.Statement.{statement}
-use Rattle.trial_io.proofs.whole_lines.Tie as tie
+use Rattle.trial_buffer.proofs.Laws.{Passed, passed-none, passed-more, whole}
+use Rattle.trial_buffer.proofs.whole_lines.Statement.{statement}
+use Rattle.trial_buffer.proofs.whole_lines.Tie as tie
 
 abbrev Inv-loop : tie.InvT-loop
 Inv-loop first n buf out₀ log₀ replies₀ invokes₀ trial₀ number₀ sent₀ at₀ used₀ out log replies invokes trial number sent at used =

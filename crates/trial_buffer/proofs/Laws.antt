@@ -18,7 +18,7 @@ use Rattle.trial_core.specs.Trial.{Lent}
 use Rattle.trial_bytes.specs.Held.{Keeps}
 use Rattle.trial_lines.specs.declared.Answered.{Answered}
 use Rattle.trial_lines.specs.Lines.{Run, nextRun, runLines, linesOf, Answers}
-use Rattle.trial_io.specs.Whole.{Whole}
+use Rattle.trial_buffer.specs.Whole.{Whole}
 
 -- lines, and more lines after them
 pub run-append : (w : Run) (xs ys : List (List ℕ)) → runLines w (xs ++ ys) ≡ runLines (runLines w xs) ys
