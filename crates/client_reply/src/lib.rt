@@ -10,7 +10,7 @@ use operation::{Operation, Response};
 use replica::Replica;
 
 // The two lists: the first `n` of `others`, the first `m` of `own`.
-#[derive(Drop)]
+#[derive(Clone, Copy)]
 struct Lists {
     others: [Operation; operation::MAX_PENDING],
     n: usize,
@@ -52,7 +52,7 @@ fn sort_to(c: u32, number: u8, statuses: [u8; operation::MAX_PENDING], m: &[u8],
 }
 
 // Whether the current operation is aborted, and its response if not.
-#[derive(Drop)]
+#[derive(Clone, Copy)]
 pub struct Verdict {
     pub aborted: bool,
     pub response: Response,

@@ -12,7 +12,7 @@ use key_table::KeyEntry;
 use replica::Replica;
 
 // The first no, and what tags by the client's own key start from where there is none.
-#[derive(Drop)]
+#[derive(Clone, Copy)]
 pub struct Checked {
     pub no: u8,
     pub own: Keyed,

@@ -64,7 +64,7 @@ pub fn moved_from(e: Operation, moves: bool) -> usize
 }
 
 // Values from `lo` up to `hi`.
-#[derive(Drop)]
+#[derive(Clone, Copy)]
 pub struct Span {
     pub lo: usize,
     pub hi: usize,

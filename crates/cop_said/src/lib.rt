@@ -10,7 +10,7 @@ use server::{ServerEvent, ServerOutcome};
 // `what` tells the outcomes apart. `number` is document 01's: 0 for a success, else a refusal's or a halt's. `first`
 // and `second` are what a success brings: `second` is signed, since a response may be negative.
 #[repr(C)]
-#[derive(Drop)]
+#[derive(Clone, Copy)]
 pub struct Said {
     pub what: u32,
     pub number: u32,

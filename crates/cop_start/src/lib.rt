@@ -10,7 +10,7 @@ use server::Server;
 
 // A client's state after its opening, and what the opening says.
 #[repr(C)]
-#[derive(Drop)]
+#[derive(Clone, Copy)]
 pub struct Opened {
     pub replica: Replica,
     pub said: Said,

@@ -6,14 +6,14 @@ ghost use Rattle.hmac.specs.Keyed.{keyed_of};
 use sha256_core::State;
 
 // What a tag call says: the tag was written, or the key or the input is over 65,535 bytes (9).
-#[derive(Drop)]
+#[derive(Clone, Copy)]
 pub enum Tagged {
     Done,
     TooLong,
 }
 
 // The hash values after the key's two blocks, XORed with ipad and with opad: what each tag by the key starts from.
-#[derive(Drop)]
+#[derive(Clone, Copy)]
 pub struct Keyed {
     pub inner: State,
     pub outer: State,

@@ -3,7 +3,7 @@ ghost use Rattle.std.specs.Prelude.{◌<◌, ◌≡◌, length};
 ghost use Rattle.input.specs.Reads.{goes_on, Reads};
 
 // What a read brought: some bytes; the end of the input; a failure, whose cause `errno` has; or nothing, since no more may be read.
-#[derive(Drop)]
+#[derive(Clone, Copy)]
 pub enum Brought {
     Some,
     Ended,
@@ -12,7 +12,7 @@ pub enum Brought {
 }
 
 // After a read: how many bytes there are now, how many were read in all, and what the read brought.
-#[derive(Drop)]
+#[derive(Clone, Copy)]
 pub struct Input {
     pub count: usize,
     pub total: u64,

@@ -7,7 +7,7 @@ use hmac::Keyed;
 use sha256_core::State;
 
 // Client k's entry is entry k of the table; entry 0 is no client's.
-#[derive(Drop)]
+#[derive(Clone, Copy)]
 pub struct KeyEntry {
     pub known: bool,
     pub state: Keyed,

@@ -5,7 +5,7 @@ ghost use Rattle.log_quotes.specs.Quotes.{sound};
 ghost use Rattle.log_columns.specs.Columns.{header_ok, columns_of};
 
 // How many fields a line must have, and where the three values stand.
-#[derive(Drop)]
+#[derive(Clone, Copy)]
 pub struct Columns {
     pub count: usize,
     pub cell: usize,

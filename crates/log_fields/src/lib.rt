@@ -25,7 +25,7 @@ pub fn count_in(s: &[u8]) -> usize
 }
 
 // Where a part of a text starts and ends.
-#[derive(Drop)]
+#[derive(Clone, Copy)]
 pub struct Part {
     pub start: usize,
     pub end: usize,

@@ -4,7 +4,7 @@ ghost use Rattle.std.specs.Prelude.{◌≤◌, length};
 ghost use Rattle.log_quotes.specs.Quotes.{start, plain, inside, EndsAt};
 
 // Where a field ends, at its separator or with the line, and whether its quotes are sound. An unsound one is all the rest of the line.
-#[derive(Drop)]
+#[derive(Clone, Copy)]
 pub struct FieldEnd {
     pub end: usize,
     pub sound: bool,

@@ -5,7 +5,7 @@ ghost use Rattle.log_values.specs.Values.{Found};
 use log_columns::Columns;
 
 // How many fields a line has, 0 where it is unsound, and the three values.
-#[derive(Drop)]
+#[derive(Clone, Copy)]
 pub struct Values {
     pub fields: usize,
     pub cell: u32,

@@ -72,7 +72,7 @@ pub const STATUS_OFFSET: usize = 47;
 pub const TAG_OFFSET: usize = 48;
 
 // An operation with its author and the author's tag: what an invoke carries, and each item of a reply.
-#[derive(Drop)]
+#[derive(Clone, Copy)]
 pub struct Item {
     pub op: Operation,
     pub author: u8,
@@ -80,7 +80,7 @@ pub struct Item {
 }
 
 // What a commit and a broadcast carry.
-#[derive(Drop)]
+#[derive(Clone, Copy)]
 pub struct Commit {
     pub op: Operation,
     pub author: u8,
@@ -91,13 +91,13 @@ pub struct Commit {
 }
 
 // What a reader of any bytes gives: whether they are the message, and its content, zero where they are not.
-#[derive(Drop)]
+#[derive(Clone, Copy)]
 pub struct ReadItem {
     pub ok: bool,
     pub item: Item,
 }
 
-#[derive(Drop)]
+#[derive(Clone, Copy)]
 pub struct ReadCommit {
     pub ok: bool,
     pub commit: Commit,

@@ -9,13 +9,13 @@ use log_columns::Columns;
 use operation::Operation;
 
 // What the first line comes to: columns, or refusal 40 of every line under it.
-#[derive(Drop)]
+#[derive(Clone, Copy)]
 pub enum Header {
     Named(Columns),
     Refused,
 }
 
-#[derive(Drop)]
+#[derive(Clone, Copy)]
 pub enum Refusal {
     Header,
     Fields,
@@ -23,7 +23,7 @@ pub enum Refusal {
 }
 
 // What a later line comes to: an operation of kind 5, whose count is left to `invoke` and is 0 here, or a refusal.
-#[derive(Drop)]
+#[derive(Clone, Copy)]
 pub enum Reading {
     Made(Operation),
     Refused(Refusal),

@@ -46,7 +46,7 @@ fn first() -> State
 }
 
 // After the last read: the state, what is held, how many bytes were read, and what the last read brought.
-#[derive(Drop)]
+#[derive(Clone, Copy)]
 struct InputTold {
     state: State,
     kept: Kept,
@@ -86,7 +86,7 @@ fn tell_input(fd: i32, buf: &mut [u8], out: &mut [u8]) -> InputTold
 }
 
 // How many bytes were read and sent, the latter modulo 2^64, and why it ended.
-#[derive(Drop)]
+#[derive(Clone, Copy)]
 pub struct Done {
     pub total: u64,
     pub sent: u64,

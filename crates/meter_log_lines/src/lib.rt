@@ -5,7 +5,7 @@ ghost use Rattle.meter_log_lines.specs.Lines.{Tells};
 use meter_log_told::Log;
 
 // After some lines: the log, how many lines there were and how many bytes they have, and how many bytes were written.
-#[derive(Drop)]
+#[derive(Clone, Copy)]
 pub struct TextTold {
     pub log: Log,
     pub count: u64,

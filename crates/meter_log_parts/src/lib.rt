@@ -9,7 +9,7 @@ use meter_log_told::{Log, LogStep};
 use output::Sent;
 
 // The program between two lines: the log, how many lines were told, and what was sent.
-#[derive(Drop)]
+#[derive(Clone, Copy)]
 pub struct State {
     pub log: Log,
     pub number: u64,
@@ -17,21 +17,21 @@ pub struct State {
 }
 
 // The whole lines of a buffer are told: the state after them, and where they end.
-#[derive(Drop)]
+#[derive(Clone, Copy)]
 struct Passed {
     state: State,
     at: usize,
 }
 
 // What is held of a line that is not yet whole: whether it is over_long, and how many of its bytes stand in the front of the buffer.
-#[derive(Drop)]
+#[derive(Clone, Copy)]
 pub struct Kept {
     pub over: bool,
     pub held: usize,
 }
 
 // After some bytes: the state, and what is held.
-#[derive(Drop)]
+#[derive(Clone, Copy)]
 pub struct StateAfter {
     pub state: State,
     pub kept: Kept,

@@ -10,7 +10,7 @@ use operation::Operation;
 pub const LINE_LIMIT: usize = 65535;
 
 // What is told of a line.
-#[derive(Drop)]
+#[derive(Clone, Copy)]
 pub enum LineTold {
     Header,
     Made(Operation),
@@ -19,14 +19,14 @@ pub enum LineTold {
 }
 
 // The log between two lines: before the first; under the first; under a first line that was over_long.
-#[derive(Drop)]
+#[derive(Clone, Copy)]
 pub enum Log {
     Start,
     Under(Header),
     Long,
 }
 
-#[derive(Drop)]
+#[derive(Clone, Copy)]
 pub struct LogStep {
     pub log: Log,
     pub told: LineTold,

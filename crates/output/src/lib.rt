@@ -6,7 +6,7 @@ ghost use Rattle.output.specs.Sends.{Sends};
 use libc::STDOUT_FILENO;
 
 // Whether all writes so far succeeded, and how many bytes they printed, modulo 2^64.
-#[derive(Drop)]
+#[derive(Clone, Copy)]
 pub struct Sent {
     pub ok: bool,
     pub bytes: u64,

@@ -15,7 +15,7 @@ pub const CHAIN_LENGTH: usize = 1056;
 // sequence numbers past it have a chain value. `chain` has 33 values of 32 bytes: that at `confirmed`, then those held.
 // `statuses` has the own statuses at the held ones: 0 none, 1 success, 2 aborted. No current operation: all fields 0.
 #[repr(C)]
-#[derive(Drop)]
+#[derive(Clone, Copy)]
 pub struct Replica {
     pub number: u8,
     pub keys: [u8; message::KEYS_LENGTH],
@@ -30,7 +30,7 @@ pub struct Replica {
 }
 
 // Why a call is refused; its number is `refusal_no` of specs/Outcome.antt.
-#[derive(Drop)]
+#[derive(Clone, Copy)]
 pub enum Refusal {
     Number,
     Keys,
@@ -43,7 +43,7 @@ pub enum Refusal {
 }
 
 // Why a client halts; its number is `halt_no`.
-#[derive(Drop)]
+#[derive(Clone, Copy)]
 pub enum Halt {
     Form,
     Content,
@@ -55,7 +55,7 @@ pub enum Halt {
 }
 
 // What a successful call brings.
-#[derive(Drop)]
+#[derive(Clone, Copy)]
 pub enum Event {
     Opened,
     Invoked(u32),
@@ -64,7 +64,7 @@ pub enum Event {
     Confirmed { seq: u32, status: u8 },
 }
 
-#[derive(Drop)]
+#[derive(Clone, Copy)]
 pub enum Outcome {
     Success(Event),
     Refused(Refusal),
@@ -72,7 +72,7 @@ pub enum Outcome {
 }
 
 // The state after a call, and its outcome.
-#[derive(Drop)]
+#[derive(Clone, Copy)]
 pub struct Stepped {
     pub replica: Replica,
     pub outcome: Outcome,

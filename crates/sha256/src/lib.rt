@@ -6,7 +6,7 @@ ghost use Rattle.sha256.specs.Inner.{rest_from, after_block};
 use sha256_core::State;
 
 // What a digest call says: the digest was written, or the input is over 65,535 bytes (9).
-#[derive(Drop)]
+#[derive(Clone, Copy)]
 pub enum Digested {
     Done,
     TooLong,

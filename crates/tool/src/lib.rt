@@ -7,7 +7,7 @@ use input::Brought;
 use libc::{STDERR_FILENO, STDIN_FILENO};
 
 // What an argument is: `--help`; another that begins with `-`; `-` alone, which is standard input; or a file's name.
-#[derive(Drop)]
+#[derive(Clone, Copy)]
 pub enum Argument {
     Help,
     Unknown,
@@ -35,7 +35,7 @@ pub fn kind(arg: &[u8]) -> Argument
 
 // What the arguments ask: the help, where one is `--help`; else nothing, where one is an unknown option, the first of them; else that
 // files are read.
-#[derive(Drop)]
+#[derive(Clone, Copy)]
 pub enum Asks {
     Help,
     Unknown(usize),
@@ -125,7 +125,7 @@ pub fn close(fd: i32) {
 }
 
 // How reading an input, and printing what it gives, ended.
-#[derive(Drop)]
+#[derive(Clone, Copy)]
 pub enum Why {
     Ended,
     ReadFailed,

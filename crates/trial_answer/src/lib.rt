@@ -8,7 +8,7 @@ use trial_core::Trial;
 use trial_words::Command;
 
 // After one line: the trial, and the place after what was written.
-#[derive(Drop)]
+#[derive(Clone, Copy)]
 pub struct Line {
     pub trial: Trial,
     pub filled: usize,

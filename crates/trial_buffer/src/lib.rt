@@ -9,7 +9,7 @@ use output::Sent;
 use trial_core::Trial;
 
 // After the lines of the buffer: the trial, how many lines there were, how many bytes are held that are not yet a line, and what was sent.
-#[derive(Drop)]
+#[derive(Clone, Copy)]
 pub struct After {
     pub trial: Trial,
     pub number: u64,

@@ -28,7 +28,7 @@ pub const FULL_AT: u64 = 256;
 // client has at most one reply on its line: `lengths` has how many bytes it has (0: there is none), `before` how many broadcasts were put
 // on the line before it. `refused` says whose invoke waits to be offered again.
 // The bytes are lent: a log has the broadcast that p others precede at p modulo LOG_SIZE; replies and invokes have those of each client.
-#[derive(Drop)]
+#[derive(Clone, Copy)]
 pub struct Lines {
     pub next: [u32; CLIENTS],
     pub before: [u32; CLIENTS],
@@ -36,7 +36,7 @@ pub struct Lines {
     pub refused: [bool; CLIENTS],
 }
 
-#[derive(Drop)]
+#[derive(Clone, Copy)]
 pub struct Trial {
     pub replicas: [Replica; CLIENTS],
     pub server: Server,
@@ -44,7 +44,7 @@ pub struct Trial {
 }
 
 // A client, the server and the lines after a line of input, and what it prints.
-#[derive(Drop)]
+#[derive(Clone, Copy)]
 pub struct Moved {
     pub replica: Replica,
     pub server: Server,

@@ -12,7 +12,7 @@ use tool::Why;
 use trial_buffer::After;
 
 // After the reads: what the lines left, how many bytes were read, and what the last read brought.
-#[derive(Drop)]
+#[derive(Clone, Copy)]
 struct Reading {
     after: After,
     total: u64,
@@ -86,7 +86,7 @@ fn zero_invokes() -> [u8; trial_core::INVOKES_LENGTH]
 }
 
 // What became of an input: how many bytes were read, how many were sent, modulo 2^64, and how that ended.
-#[derive(Drop)]
+#[derive(Clone, Copy)]
 pub struct Done {
     pub total: u64,
     pub sent: u64,

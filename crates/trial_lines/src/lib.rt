@@ -6,7 +6,7 @@ ghost use Rattle.trial_lines.specs.Lines.{Answers};
 use trial_core::Trial;
 
 // After some lines: the trial, how many lines there were and how many bytes they have, and how many bytes were written.
-#[derive(Drop)]
+#[derive(Clone, Copy)]
 pub struct Answered {
     pub trial: Trial,
     pub count: u64,

@@ -11,7 +11,7 @@ use trial_core::Lines;
 use trial_said::LineWord;
 
 // The server and the lines after an invoke is offered, and what that prints.
-#[derive(Drop)]
+#[derive(Clone, Copy)]
 pub struct Offered {
     pub server: Server,
     pub lines: Lines,
@@ -19,7 +19,7 @@ pub struct Offered {
 }
 
 // The server and the lines after the refused invokes are offered again.
-#[derive(Drop)]
+#[derive(Clone, Copy)]
 pub struct Again {
     pub server: Server,
     pub lines: Lines,

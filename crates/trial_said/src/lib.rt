@@ -7,7 +7,7 @@ ghost use Rattle.trial_said.specs.Word.{word_of, word_bytes, answer as answerWor
 use operation::Response;
 
 // What a line of input gives.
-#[derive(Drop)]
+#[derive(Clone, Copy)]
 pub enum LineWord {
     Placed(u32),
     Answer { place: u32, answer: Response },

@@ -12,7 +12,7 @@ use trial_core::{Moved, Trial};
 use trial_said::LineWord;
 
 // A trial after a command, the van that is printed, and what the command gives.
-#[derive(Drop)]
+#[derive(Clone, Copy)]
 pub struct Result {
     pub trial: Trial,
     pub van: u8,

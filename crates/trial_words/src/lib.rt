@@ -6,7 +6,7 @@ ghost use Rattle.trial_words.specs.Words.{asked, from_words};
 const CLIENTS: u32 = message::CLIENTS as u32;
 
 // What a line of input asks.
-#[derive(Drop)]
+#[derive(Clone, Copy)]
 pub enum Command {
     Invoke {
         van: u8,
