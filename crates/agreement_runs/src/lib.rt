@@ -1,2 +1,3 @@
 // Runs of several clients, for any keys, that show what demand 3 says: see proofs/Witness.antt, proofs/OldPlace.antt
 // and proofs/EarlyCommit.antt.
+#![tactic(auto)]

@@ -1,4 +1,6 @@
 // The comparison of tags for a C program that times it (bench/tags.sh), and the one with an early exit beside it.
+#![tactic(auto)]
+
 ghost use Rattle.std.specs.Prelude.{◌≡◌};
 ghost use Rattle.slices.specs.Bytes.{same};
 ghost use Rattle.tag_compare.specs.Difference.{different_bits};

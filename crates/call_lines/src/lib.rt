@@ -1,4 +1,6 @@
 // What the programs that run listed calls share: the words of a line, a state in bytes, and printing.
+#![tactic(auto)]
+
 ghost use Rattle.std.specs.Prelude.{◌+◌, ◌≤◌, ◌≡◌, length};
 
 use libc::STDOUT_FILENO;

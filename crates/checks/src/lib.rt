@@ -1,4 +1,6 @@
 // Checks in order, by their numbers in document 01; 0 says that no check has had a no. Definitions: specs/Checks.antt.
+#![tactic(auto)]
+
 ghost use Rattle.std.specs.Prelude.{◌≡◌};
 ghost use Rattle.checks.specs.Checks.{also_no};
 

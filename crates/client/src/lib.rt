@@ -1,4 +1,6 @@
 // The client's calls (document 01: the van's): opening, invoking, and taking a message from the server.
+#![tactic(auto)]
+
 ghost use Rattle.std.specs.Prelude.{◌≡◌, length};
 ghost use Rattle.replica.specs.Replica.{after_of, over};
 ghost use Rattle.client_open.specs.Open.{open_step};

@@ -1,4 +1,6 @@
 // The checks of a broadcast. Definitions of taking one: specs/Broadcast.antt.
+#![tactic(auto)]
+
 ghost use Rattle.std.specs.Prelude.{◌≡◌, ◌+◌, ◌≤◌, length};
 ghost use Rattle.message.specs.Layout.{client_count};
 ghost use Rattle.checks.specs.Checks.{first_no};

@@ -1,4 +1,6 @@
 // What a reply leaves: the chain, the commit and the state after it. Definitions: specs/Reply.antt of client_reply.
+#![tactic(auto)]
+
 ghost use Rattle.std.specs.Prelude.{◌≡◌, ◌+◌, ◌*◌, ◌<◌, ◌≤◌, ◌++◌, length, drop};
 ghost use Rattle.operation.specs.Operation.{max_pending};
 ghost use Rattle.message.specs.Layout.{max_seq, item_length, reply_head, commit_length};

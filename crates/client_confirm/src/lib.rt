@@ -1,4 +1,6 @@
 // Taking a broadcast, once it is checked. Definitions: specs/Broadcast.antt of client_broadcast.
+#![tactic(auto)]
+
 ghost use Rattle.std.specs.Prelude.{◌≡◌, ◌-◌, ◌*◌, ◌<◌, true, ◌∷◌, [], ◌++◌, drop, replicate};
 ghost use Rattle.message.specs.Layout.{max_seq, digest_length};
 ghost use Rattle.replica.specs.Replica.{after_of};

@@ -1,4 +1,6 @@
 // The checks of an invoke. Definitions of invoking: specs/Invoke.antt.
+#![tactic(auto)]
+
 ghost use Rattle.std.specs.Prelude.{◌≡◌};
 ghost use Rattle.client_invoke.specs.Invoke.{invoke_no};
 

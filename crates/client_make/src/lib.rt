@@ -1,4 +1,6 @@
 // Invoking an operation, once it is checked: the operation, the state after it, the `IN` and the call. Definitions: specs/Invoke.antt of client_invoke.
+#![tactic(auto)]
+
 ghost use Rattle.std.specs.Prelude.{◌≡◌, ◌≤◌, ◌++◌, length, drop};
 ghost use Rattle.message.specs.Layout.{client_count, invoke_length};
 ghost use Rattle.replica.specs.Replica.{after_of, over};

@@ -1,4 +1,6 @@
 // Opening a client. Definitions: specs/Open.antt.
+#![tactic(auto)]
+
 ghost use Rattle.std.specs.Prelude.{◌≡◌};
 ghost use Rattle.replica.specs.Replica.{after_of};
 ghost use Rattle.client_open.specs.Open.{open_step};

@@ -1,4 +1,6 @@
 // The verdict on a reply: whether the current operation is aborted, and its response. Definitions of taking a reply: specs/Reply.antt.
+#![tactic(auto)]
+
 ghost use Rattle.std.specs.Prelude.{◌≡◌, ◌+◌, ◌*◌, ◌≤◌, length};
 ghost use Rattle.operation.specs.Operation.{max_pending};
 ghost use Rattle.message.specs.Layout.{item_length, reply_head};

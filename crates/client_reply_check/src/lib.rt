@@ -1,4 +1,6 @@
 // The checks of one item of a reply. Definitions of all the checks of a reply: specs/ReplyChecks.antt.
+#![tactic(auto)]
+
 ghost use Rattle.std.specs.Prelude.{◌≡◌, ◌+◌, ◌<◌, ◌≤◌};
 ghost use Rattle.operation.specs.Operation.{max_pending};
 ghost use Rattle.message.specs.Layout.{client_count, max_seq};

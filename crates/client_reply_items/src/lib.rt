@@ -1,4 +1,6 @@
 // All the checks of a reply, in their order. Definitions: specs/ReplyChecks.antt of client_reply_check.
+#![tactic(auto)]
+
 ghost use Rattle.std.specs.Prelude.{◌≡◌, ◌+◌, ◌*◌, ◌<◌, ◌≤◌, length};
 ghost use Rattle.operation.specs.Operation.{max_pending};
 ghost use Rattle.message.specs.Layout.{client_count, max_seq, item_length, reply_head};

@@ -1,4 +1,6 @@
 // Taking a reply (document 01: `RE`). Definitions: specs/Reply.antt of client_reply.
+#![tactic(auto)]
+
 ghost use Rattle.std.specs.Prelude.{◌≡◌, ◌+◌, length};
 ghost use Rattle.replica.specs.Replica.{after_of, over};
 ghost use Rattle.client_reply.specs.Reply.{reply_step};

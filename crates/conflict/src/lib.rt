@@ -1,4 +1,6 @@
 // The conflict test. What a conflict is: specs/Conflict.antt.
+#![tactic(auto)]
+
 ghost use Rattle.std.specs.Prelude.{◌≡◌, ◌≤◌, ◌⊎◌, take};
 ghost use Rattle.operation.specs.Operation.{max_pending};
 ghost use Rattle.conflict.specs.Conflict.{conflicts};

@@ -1,4 +1,6 @@
 // The conflict test among operations on one cell, by one number: its value or its temperature.
+#![tactic(auto)]
+
 ghost use Rattle.std.specs.Prelude.{◌≡◌, ◌≤◌, true, ◌↔◌, take};
 ghost use Rattle.operation.specs.Operation.{max_pending, value, value_response};
 ghost use Rattle.conflict_cell.specs.Differs.{Differs};

@@ -1,4 +1,6 @@
 // Rows of 256 marks, one for each value of a cell, and what an operation does to them. The conflict test's inner steps.
+#![tactic(auto)]
+
 ghost use Rattle.std.specs.Prelude.{◌≡◌, ℕ, ◌+◌, ◌<◌, ◌≤◌, true, ◌↔◌, length};
 ghost use Rattle.conflict_marks.specs.Marks.{Has, Blank, Laid, Joined, moved_from, SameSpan};
 

@@ -1,4 +1,6 @@
 // The conflict test on numbers, one for each cell, be they values or temperatures: cell by cell.
+#![tactic(auto)]
+
 ghost use Rattle.std.specs.Prelude.{◌≡◌, ◌≤◌, true, ◌↔◌, length, take};
 ghost use Rattle.operation.specs.Operation.{max_pending, value, value_response};
 ghost use Rattle.conflict_cell.specs.Differs.{Differs};

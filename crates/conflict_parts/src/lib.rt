@@ -1,4 +1,6 @@
 // The conflict test by one part of the operations: what they are to the cells' values, or to their temperatures.
+#![tactic(auto)]
+
 ghost use Rattle.std.specs.Prelude.{◌≡◌, ◌≤◌, true, ◌↔◌, length, take};
 ghost use Rattle.operation.specs.Operation.{max_pending};
 ghost use Rattle.conflict_cell.specs.Differs.{Differs};

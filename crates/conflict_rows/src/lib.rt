@@ -1,4 +1,6 @@
 // Rows of marks moved by an operation, and the quick look before the search. Definitions: those of conflict_marks.
+#![tactic(auto)]
+
 ghost use Rattle.std.specs.Prelude.{◌≡◌, ℕ, ◌+◌, ◌<◌, ◌≤◌, true, ◌↔◌, length};
 ghost use Rattle.operation.specs.Operation.{max_pending};
 ghost use Rattle.conflict_marks.specs.Marks.{Has, Blank, Ran, Other, marks_at, Widened};

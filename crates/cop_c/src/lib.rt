@@ -1,5 +1,7 @@
 // The client's and the server's calls, the digest and the tag, for C, C++ and Rust programs to link: include/cop.h declares them. The caller
 // keeps the state of a client or a server, and a call updates it in place. What a call says is four numbers (specs/Said.antt of cop_said).
+#![tactic(auto)]
+
 ghost use Rattle.std.specs.Prelude.{◌≡◌, length};
 ghost use Rattle.replica.specs.Replica.{over};
 ghost use Rattle.client_open.specs.Open.{open_step};

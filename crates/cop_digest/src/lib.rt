@@ -1,4 +1,6 @@
 // The digest and the tag, for C, C++ and Rust programs to link: include/cop.h declares them. Each says document 01's number, 0 or 9.
+#![tactic(auto)]
+
 ghost use Rattle.std.specs.Prelude.{◌≡◌};
 ghost use Rattle.sha256.specs.Sha256.{digest_no, digest_out};
 ghost use Rattle.hmac.specs.Hmac.{tag_no, tag_out};

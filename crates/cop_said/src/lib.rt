@@ -1,4 +1,6 @@
 // What a call says to a program in C or Rust: an outcome as four numbers. Definitions: specs/Said.antt.
+#![tactic(auto)]
+
 ghost use Rattle.std.specs.Prelude.{◌≡◌};
 ghost use Rattle.replica.specs.Outcome.{event_told, told};
 ghost use Rattle.server.specs.Server.{event_told as serverEventTold, told as serverTold};

@@ -1,4 +1,6 @@
 // A client opened and a fresh server, for C, C++ and Rust programs to link: include/cop.h declares them.
+#![tactic(auto)]
+
 ghost use Rattle.std.specs.Prelude.{◌≡◌};
 ghost use Rattle.client_open.specs.Open.{open_step};
 ghost use Rattle.server.specs.Server.{fresh_server};

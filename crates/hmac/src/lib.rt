@@ -1,4 +1,6 @@
 // HMAC (RFC 2104) with SHA-256.
+#![tactic(auto)]
+
 ghost use Rattle.std.specs.Prelude.{◌≡◌, List, ℕ, ◌≤◌, length};
 ghost use Rattle.hmac.specs.Hmac.{filled, block_key, xored, hmac, tagged_no, tag_no, tag_out};
 ghost use Rattle.hmac.specs.Keyed.{keyed_of};

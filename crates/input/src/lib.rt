@@ -1,4 +1,6 @@
 // Bytes of an open file, read piece by piece to stand after those held. Definitions: specs/Reads.antt.
+#![tactic(auto)]
+
 ghost use Rattle.std.specs.Prelude.{◌<◌, ◌≡◌, length};
 ghost use Rattle.input.specs.Reads.{goes_on, Reads};
 

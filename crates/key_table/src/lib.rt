@@ -1,4 +1,6 @@
 // What tags by the clients' keys start from, each worked out when it is first asked for. Definitions: specs/KeyTable.antt.
+#![tactic(auto)]
+
 ghost use Rattle.std.specs.Prelude.{◌≡◌, List, true, ℕ, ◌<◌, ◌≤◌};
 ghost use Rattle.message.specs.Layout.{client_count};
 ghost use Rattle.key_table.specs.KeyTable.{Right, StateOf, entry_place};

@@ -1,5 +1,7 @@
 // The columns that the first line of the meters' log names (document 02, Q-5). Definitions: specs/Columns.antt. `s` is a line that is
 // cut already. An inner step of `meter_log`: `columns_in` asks that the line is sound.
+#![tactic(auto)]
+
 ghost use Rattle.std.specs.Prelude.{◌≡◌, true};
 ghost use Rattle.log_quotes.specs.Quotes.{sound};
 ghost use Rattle.log_columns.specs.Columns.{header_ok, columns_of};

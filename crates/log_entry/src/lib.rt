@@ -1,5 +1,7 @@
 // The entry that a line of the meters' log becomes (document 02, Q-5). Definitions: specs/Entry.antt. An inner step of `meter_log`:
 // `entry_of` asks that the values are in their ranges.
+#![tactic(auto)]
+
 ghost use Rattle.std.specs.Prelude.{◌≡◌, true};
 ghost use Rattle.log_entry.specs.Entry.{in_ranges, reported};
 

@@ -1,5 +1,7 @@
 // The program that reads meters' logs: standard input, or the files that its arguments name, in order, each as a log of its own. What is
 // printed for a log is the contract of `meter_log_io::run`.
+#![tactic(auto)]
+
 use tool::Asks;
 
 // Reads the log that `name` names. Whether the next one is read.

@@ -1,5 +1,7 @@
 // The fields of a line (document 02, Q-5). Definitions: specs/Places.antt. A `text` is cut at its first line feed; a line `s` is one that
 // is cut already. A field is a part of what the caller lent: nothing is copied.
+#![tactic(auto)]
+
 ghost use Rattle.std.specs.Prelude.{◌≡◌};
 ghost use Rattle.log_lines.specs.Lines.{first_line};
 ghost use Rattle.log_quotes.specs.Quotes.{field_at, field_count};

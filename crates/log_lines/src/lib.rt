@@ -1,5 +1,7 @@
 // Lines of a text (document 02, Q-5). Definitions: specs/Lines.antt. A `text` is cut at its first line feed. A line is a part of
 // what the caller lent: nothing is copied.
+#![tactic(auto)]
+
 ghost use Rattle.std.specs.Prelude.{◌≡◌};
 ghost use Rattle.log_lines.specs.Lines.{less_return, first_line, next_line};
 

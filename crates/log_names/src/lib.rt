@@ -1,6 +1,8 @@
 // A name among the fields of a line (document 02, Q-5). Definitions: specs/Names.antt. An inner step of `log_columns`: the line `s` is cut
 // already and is taken as it is, sound or not (of an unsound line all from its first unsound field on is the last field). The caller
 // asks for soundness beside it.
+#![tactic(auto)]
+
 ghost use Rattle.std.specs.Prelude.{◌≡◌, cond};
 ghost use Rattle.slices.specs.Bytes.{same};
 ghost use Rattle.log_quotes.specs.Quotes.{fields};

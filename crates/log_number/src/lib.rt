@@ -1,5 +1,7 @@
 // Numbers and temperatures in the fields of the meters' log (document 02, Q-5). Definitions: specs/Number.antt. An inner step of
 // `log_values`: a field's bytes are taken as they are.
+#![tactic(auto)]
+
 ghost use Rattle.std.specs.Prelude.{◌≡◌, cond};
 ghost use Rattle.log_number.specs.Number.{number, warm, cold, temperature};
 

@@ -1,5 +1,7 @@
 // The end of a field in its line, and whether its quotes are sound (document 02, Q-5). Definitions: specs/Quotes.antt. An inner step:
 // it asks that the field starts within the line `s`, which is cut already, and of an unsound field it gives what stands there.
+#![tactic(auto)]
+
 ghost use Rattle.std.specs.Prelude.{◌≤◌, length};
 ghost use Rattle.log_quotes.specs.Quotes.{start, plain, inside, EndsAt};
 

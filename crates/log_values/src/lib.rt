@@ -1,5 +1,7 @@
 // The three values of a line of the meters' log (document 02, Q-5). Definitions: specs/Values.antt. An inner step of `meter_log`: the line
 // `s` is cut already, and of an unsound one nothing is said of the values.
+#![tactic(auto)]
+
 ghost use Rattle.log_values.specs.Values.{Found};
 
 use log_columns::Columns;

@@ -1,4 +1,6 @@
 // The four messages: their layout, the strings under digest and tag, and readers of any bytes. Definitions: specs/Layout.antt, specs/Message.antt.
+#![tactic(auto)]
+
 ghost use Rattle.std.specs.Prelude.{◌≡◌, ◌+◌, ◌*◌, ◌≤◌, length};
 ghost use Rattle.message.specs.Layout.{item_length, reply_head, commit_length};
 ghost use Rattle.message.specs.Message.{marked, is_invoke, is_reply, is_commit, is_broadcast, item_at, reply_item, commit_of};

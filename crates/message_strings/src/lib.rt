@@ -1,4 +1,6 @@
 // The strings under digest and tag. Definitions: specs/Message.antt of message.
+#![tactic(auto)]
+
 ghost use Rattle.std.specs.Prelude.{◌≡◌, [], ◌∷◌, ◌++◌, get_or};
 ghost use Rattle.operation.specs.Operation.{op_bytes};
 ghost use Rattle.message.specs.Message.{invoke_string, commit_string, chain_string};

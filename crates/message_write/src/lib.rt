@@ -1,4 +1,6 @@
 // What is written of the messages into a lent buffer, and not a byte past it: an item, an invoke, a commit. Definitions: specs/Message.antt of message.
+#![tactic(auto)]
+
 ghost use Rattle.std.specs.Prelude.{◌≡◌, ◌++◌, ◌+◌, ◌≤◌, length, take, drop};
 ghost use Rattle.message.specs.Layout.{item_length, invoke_length, commit_length};
 ghost use Rattle.message.specs.Message.{item_bytes, invoke_bytes, commit_bytes};

@@ -1,5 +1,7 @@
 // The meters' log, read by column name (document 02, Q-5). Definitions: specs/Reading.antt, specs/Told.antt. A `text` is cut at its first
 // line feed; a line `s` is one that is cut already.
+#![tactic(auto)]
+
 ghost use Rattle.std.specs.Prelude.{◌≡◌};
 ghost use Rattle.log_lines.specs.Lines.{first_line};
 ghost use Rattle.meter_log.specs.Reading.{refusal_no, header_of, reading_of, read_columns, read_line};

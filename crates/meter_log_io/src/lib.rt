@@ -2,6 +2,8 @@
 // is the contract of `meter_log_lines::tell_lines`, and for the last one, where no line feed ends it, of `tell_end`; that no byte is lost
 // or told twice between two reads is that of `more`, and of `tell_input` for every way in which the input may come in parts. `run` says
 // how many bytes were read and sent, and why it ended. Definitions: specs/Whole.antt, specs/Ran.antt.
+#![tactic(auto)]
+
 ghost use Rattle.std.specs.Prelude.{◌≡◌, ◌&&◌, ◌+◌, ◌≤◌, ◌<◌, ◌^◌, length, take};
 ghost use Rattle.input.specs.Reads.{goes_on};
 ghost use Rattle.meter_log_told.specs.Told.{line_limit};

@@ -1,4 +1,6 @@
 // Lines of a log told into a buffer. Definitions: specs/Lines.antt.
+#![tactic(auto)]
+
 ghost use Rattle.std.specs.Prelude.{◌+◌, ◌<◌, ◌^◌, length};
 ghost use Rattle.meter_log_lines.specs.Lines.{Tells};
 

@@ -1,6 +1,8 @@
 // Bytes of a log that came, told and printed: the whole lines among them, what is held of the rest, and the last line. What is printed for
 // which line is the contract of `meter_log_lines::tell_lines`; that no byte is lost or told twice between two reads is that of `more`.
 // Inner steps of the log program. Definitions: specs/Whole.antt.
+#![tactic(auto)]
+
 ghost use Rattle.std.specs.Prelude.{◌≡◌, [], true, ◌+◌, ◌≤◌, ◌<◌, ◌^◌, length, take};
 ghost use Rattle.meter_log_told.specs.Told.{line_limit};
 ghost use Rattle.meter_log_parts.specs.Whole.{between, Stands, Past, OneMore, AllTold, Came, LastTold};

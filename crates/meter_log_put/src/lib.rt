@@ -1,5 +1,7 @@
 // What the log program prints for a line, written. Each function writes from `at` on, and answers the place after it. Definitions:
 // specs/Text.antt.
+#![tactic(auto)]
+
 ghost use Rattle.std.specs.Prelude.{◌≡◌, ◌+◌, ◌≤◌, [], ◌∷◌, ◌++◌, length};
 ghost use Rattle.slices.specs.Bytes.{put};
 ghost use Rattle.text_put.specs.Datum.{datum};

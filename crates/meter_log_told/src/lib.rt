@@ -1,4 +1,6 @@
 // What the log program tells of each line. Definitions: specs/Told.antt.
+#![tactic(auto)]
+
 ghost use Rattle.std.specs.Prelude.{◌≡◌};
 ghost use Rattle.meter_log_told.specs.declared.Log.TheVariants.{Start, Under};
 ghost use Rattle.meter_log_told.specs.Told.{tell_header, tell_reading, tell_line, tell_long, tell_whole, tell_last};

@@ -1,4 +1,6 @@
 // Operations run on cells and temperatures: what each does, and its response. Definitions: specs/Operation.antt of operation.
+#![tactic(auto)]
+
 ghost use Rattle.std.specs.Prelude.{◌≡◌, ◌+◌, ◌≤◌, take, set};
 ghost use Rattle.operation.specs.Operation.{max_pending, signed, number_at, value, temp, failed, value_response, response, after, response_on, effect, run_all};
 

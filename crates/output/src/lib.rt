@@ -1,5 +1,7 @@
 // Bytes printed, and how many. What a write does, no contract can say; what is counted here is what was handed to a write that succeeded.
 // Definitions: specs/Sends.antt.
+#![tactic(auto)]
+
 ghost use Rattle.std.specs.Prelude.{◌≡◌, ◌+◌, ◌%◌, ◌^◌, ◌≤◌, true, length};
 ghost use Rattle.output.specs.Sends.{Sends};
 

@@ -1,5 +1,7 @@
 // The client's state, its places, the outcomes of its calls, check 8 and checks in order. Definitions: specs/Outcome.antt,
 // specs/Places.antt, specs/Replica.antt.
+#![tactic(auto)]
+
 ghost use Rattle.std.specs.Prelude.{◌≡◌, ◌≤◌, true};
 ghost use Rattle.replica.specs.Outcome.{refusal_no, halt_no, is_halt, is_stop};
 ghost use Rattle.operation.specs.Operation.{max_pending};

@@ -1,4 +1,6 @@
 // Check 8, and the checks that every call on a replica asks first. Definitions: specs/Replica.antt of replica.
+#![tactic(auto)]
+
 ghost use Rattle.std.specs.Prelude.{◌≡◌};
 ghost use Rattle.checks.specs.Checks.{first_no};
 ghost use Rattle.replica.specs.Replica.{numbers_ok, arrays_ok, in_range, ready_checks};

@@ -1,4 +1,6 @@
 // The broadcasts of what is due, written from a server's arrays (document 01: the relay's `BR`s). Definitions: specs/Server.antt and specs/Slots.antt of server.
+#![tactic(auto)]
+
 ghost use Rattle.std.specs.Prelude.{◌≡◌, ◌∷◌, ◌++◌, ◌+◌, ◌*◌, ◌<◌, ◌≤◌, length, get_or, take, drop};
 ghost use Rattle.slices.specs.Bytes.{big_endian};
 ghost use Rattle.operation.specs.Operation.{max_pending, op_bytes, op_at};

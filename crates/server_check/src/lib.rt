@@ -1,4 +1,6 @@
 // All the checks of the server's call, in their order. Definition: server_no of server's specs/Server.antt.
+#![tactic(auto)]
+
 ghost use Rattle.std.specs.Prelude.{◌≡◌};
 ghost use Rattle.server.specs.Server.{server_no};
 ghost use Rattle.server.specs.Slots.{server_of};

@@ -1,4 +1,6 @@
 // The checks of a commit: 35, 36 and 7. Definitions: specs/Server.antt of server.
+#![tactic(auto)]
+
 ghost use Rattle.std.specs.Prelude.{◌≡◌, ◌-◌, ◌≤◌};
 ghost use Rattle.operation.specs.Operation.{max_pending};
 ghost use Rattle.message.specs.Layout.{max_seq};

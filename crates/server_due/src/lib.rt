@@ -1,4 +1,6 @@
 // How many broadcasts are due (document 01: "while place b + 1 has its commit"). Definition: leading of server's specs/Server.antt.
+#![tactic(auto)]
+
 ghost use Rattle.std.specs.Prelude.{◌≡◌, ◌<◌, ◌≤◌, length, set};
 ghost use Rattle.operation.specs.Operation.{max_pending};
 ghost use Rattle.server.specs.Server.{leading};

@@ -1,4 +1,6 @@
 // The form and content of a message to the server: check 30 (document 01). Definitions: specs/Server.antt of server.
+#![tactic(auto)]
+
 ghost use Rattle.std.specs.Prelude.{◌≡◌};
 ghost use Rattle.server.specs.Server.{whole_invoke, whole_commit};
 

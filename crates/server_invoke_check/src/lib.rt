@@ -1,4 +1,6 @@
 // The checks of an invoke: 32, 33, 34 and 7. Definitions: specs/Server.antt of server.
+#![tactic(auto)]
+
 ghost use Rattle.std.specs.Prelude.{◌≡◌, ◌+◌, ◌-◌, ◌≤◌, get_or, eqb};
 ghost use Rattle.message.specs.Layout.{client_count, max_seq};
 ghost use Rattle.checks.specs.Checks.{first_no};

@@ -1,4 +1,6 @@
 // The checks of both messages: 8, 30 and 31. Definitions: specs/Server.antt of server.
+#![tactic(auto)]
+
 ghost use Rattle.std.specs.Prelude.{◌≡◌, get_or};
 ghost use Rattle.message.specs.Layout.{author_offset};
 ghost use Rattle.checks.specs.Checks.{first_no};

@@ -1,4 +1,6 @@
 // The server's call on a state that the caller lends: it updates it in place.
+#![tactic(auto)]
+
 ghost use Rattle.std.specs.Prelude.{◌≡◌, length};
 ghost use Rattle.replica.specs.Replica.{over};
 ghost use Rattle.server.specs.Server.{told, server_step};

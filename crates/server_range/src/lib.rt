@@ -1,4 +1,6 @@
 // Check 8 for the server (document 01: the relay's fields in range). Definition: inRange of server's specs/Server.antt.
+#![tactic(auto)]
+
 ghost use Rattle.std.specs.Prelude.{◌≡◌, leb};
 ghost use Rattle.operation.specs.Operation.{max_count};
 ghost use Rattle.slices.specs.Bytes.{all};

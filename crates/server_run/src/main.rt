@@ -1,5 +1,7 @@
 // Runs the calls that standard input lists on two server states, and prints a line for each: tests/server_run.py has the
 // form of both. Nothing is claimed but that it is safe and ends; what it prints is held to the file stdout.
+#![tactic(auto)]
+
 ghost use Rattle.std.specs.Prelude.{◌+◌, ◌≤◌, ◌≡◌, length};
 
 use libc::STDIN_FILENO;

@@ -1,4 +1,6 @@
 // The slots once the first ones are passed on (document 01: "Places passed on serve again"). Definition: passed_server of server's specs/Server.antt.
+#![tactic(auto)]
+
 ghost use Rattle.std.specs.Prelude.{◌≡◌, ◌++◌, ◌*◌, ◌≤◌, drop, replicate};
 ghost use Rattle.operation.specs.Operation.{max_pending};
 ghost use Rattle.message.specs.Layout.{digest_length, item_length};

@@ -1,4 +1,6 @@
 // Check 8 for the slots in use (document 01: stored entries, authors and statuses). Definition: slots_ok of server's specs/Server.antt.
+#![tactic(auto)]
+
 ghost use Rattle.std.specs.Prelude.{◌≡◌, ◌+◌, ◌<◌, ◌≤◌, length, take, drop};
 ghost use Rattle.slices.specs.Bytes.{all, is_zero};
 ghost use Rattle.operation.specs.Operation.{max_pending};

@@ -1,4 +1,6 @@
 // Check 8 for the slots not in use (document 01: "unused slots zero"). Definition: unused_ok of server's specs/Server.antt.
+#![tactic(auto)]
+
 ghost use Rattle.std.specs.Prelude.{◌≡◌, ◌≤◌};
 ghost use Rattle.operation.specs.Operation.{max_pending};
 ghost use Rattle.server.specs.Server.{unused_ok};

@@ -1,4 +1,6 @@
 // SHA-256 (FIPS 180-4).
+#![tactic(auto)]
+
 ghost use Rattle.std.specs.Prelude.{◌≡◌, List, ◌++◌, ℕ, ◌+◌, ◌/◌, ◌%◌, ◌≤◌, length};
 ghost use Rattle.sha256.specs.Sha256.{initial, hash_from, sha256, digested_no, digest_no, digest_out};
 ghost use Rattle.sha256.specs.Inner.{rest_from, after_block};

@@ -1,4 +1,6 @@
 // The schedule of a block of SHA-256 (FIPS 180-4, section 6.2.2, step 1). Definitions of the whole step: specs/Block.antt.
+#![tactic(auto)]
+
 ghost use Rattle.std.specs.Prelude.{◌≡◌, ◌+◌, ◌<◌, ◌≤◌, length, take};
 ghost use Rattle.sha256_block.specs.Block.{words_at, next_word};
 ghost use Rattle.sha256_block.specs.Inner.{add_word, add_words};

@@ -1,4 +1,6 @@
 // The end of SHA-256 (FIPS 180-4, section 6.2.2): the hash value as bytes.
+#![tactic(auto)]
+
 ghost use Rattle.std.specs.Prelude.{◌≡◌};
 ghost use Rattle.sha256_bytes.specs.Bytes.{bytes_of};
 

@@ -1,4 +1,6 @@
 // One block of SHA-256 (FIPS 180-4, section 6.2.2): the rounds on its schedule, and the next hash value. Definitions: specs/Block.antt of sha256_block.
+#![tactic(auto)]
+
 ghost use Rattle.std.specs.Prelude.{◌≡◌, ◌+◌, ◌≤◌, ◌<◌, length, take};
 ghost use Rattle.sha256_core.specs.Round.{k_table};
 ghost use Rattle.sha256_block.specs.Block.{words_at, schedule, rounds, compress_of};

@@ -1,4 +1,6 @@
 // Words of 32 bits and one round of SHA-256 (FIPS 180-4, sections 4.1.2, 4.2.2 and 6.2.2).
+#![tactic(auto)]
+
 ghost use Rattle.std.specs.Prelude.{◌≡◌, ◌<◌};
 ghost use Rattle.sha256_core.specs.Words.{Ch, Maj, Σ0, Σ1, σ0, σ1};
 ghost use Rattle.sha256_core.specs.Round.{k_table, round_at, add_state};

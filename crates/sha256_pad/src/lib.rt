@@ -1,4 +1,6 @@
 // The padding of SHA-256 (FIPS 180-4, section 5.1.1).
+#![tactic(auto)]
+
 ghost use Rattle.std.specs.Prelude.{◌≡◌, ◌++◌, ◌*◌, ◌%◌, ◌≤◌, length, take, replicate};
 ghost use Rattle.slices.specs.Bytes.{big_endian};
 ghost use Rattle.sha256_pad.specs.Padding.{padding};

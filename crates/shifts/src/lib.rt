@@ -1,4 +1,6 @@
 // Bytes moved to the front of where they lie.
+#![tactic(auto)]
+
 ghost use Rattle.std.specs.Prelude.{◌≡◌, ◌++◌, ◌-◌, ◌≤◌, length, take, drop, replicate};
 
 // Moves the bytes from `from` to `to` to the front.

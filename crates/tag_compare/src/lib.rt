@@ -1,4 +1,6 @@
 // Two tags compared in the same steps, whatever their bytes are (bench/tags.sh). Definition: specs/Difference.antt.
+#![tactic(auto)]
+
 ghost use Rattle.std.specs.Prelude.{◌≡◌};
 ghost use Rattle.tag_compare.specs.Difference.{different_bits};
 

@@ -1,4 +1,6 @@
 // Text in bytes: the place of a byte, and decimal numbers. Definitions: specs/Text.antt.
+#![tactic(auto)]
+
 ghost use Rattle.std.specs.Prelude.{◌≡◌, ◌+◌, ◌-◌, ◌*◌, ◌<◌, ◌≤◌, min, length, drop, nat_abs};
 ghost use Rattle.slices.specs.Bytes.{put};
 ghost use Rattle.text.specs.Text.{place_of, number_of, decimal_of};

@@ -1,4 +1,6 @@
 // Bytes and numbers put into a text. Each function writes from `at` on, and answers the place after it. Definitions: specs/Datum.antt.
+#![tactic(auto)]
+
 ghost use Rattle.std.specs.Prelude.{◌≡◌, ◌+◌, ◌≤◌, length};
 ghost use Rattle.slices.specs.Bytes.{put};
 ghost use Rattle.text_put.specs.Datum.{datum, signed_datum};

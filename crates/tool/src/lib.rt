@@ -1,5 +1,7 @@
 // What a program does that reads the files its arguments name: the arguments looked at, files opened, failures told on standard error.
 // Definitions: specs/Tool.antt. What the operating system is asked and told stays by reading: `os` and `io` say what a call does.
+#![tactic(auto)]
+
 ghost use Rattle.std.specs.Prelude.{◌≡◌};
 ghost use Rattle.tool.specs.Tool.{kind_of, unknown_at, first_of, why_of, next_read};
 

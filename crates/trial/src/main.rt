@@ -1,5 +1,7 @@
 // The trial program of document 01, on the files that its arguments name or on standard input. What is read and printed of each is the
 // contract of `trial_io::run`; which are read, in which order, and what is told on standard error stays by reading.
+#![tactic(auto)]
+
 use tool::Asks;
 
 fn help() {

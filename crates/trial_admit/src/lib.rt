@@ -1,4 +1,6 @@
 // An invoke at a client, or `full` (document 01, "Cases"). Definitions: specs/Trial.antt of trial_core.
+#![tactic(auto)]
+
 ghost use Rattle.std.specs.Prelude.{◌≡◌, List, true, ℕ, length};
 ghost use Rattle.trial_core.specs.Sizes.{invokes_length, replies_length};
 ghost use Rattle.trial_words.specs.Words.{invoke};

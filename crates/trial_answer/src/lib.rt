@@ -1,4 +1,6 @@
 // One line of input answered into a buffer. Definition: specs/Answer.antt.
+#![tactic(auto)]
+
 ghost use Rattle.std.specs.Prelude.{◌+◌, ◌≤◌, length};
 ghost use Rattle.trial_words.specs.Words.{asked};
 ghost use Rattle.trial_core.specs.Moves.{lent_of};

@@ -1,4 +1,6 @@
 // A client takes a broadcast from its line. Definitions: specs/Trial.antt of trial_core.
+#![tactic(auto)]
+
 ghost use Rattle.std.specs.Prelude.{◌≡◌, List, true, ℕ, ◌<◌, length};
 ghost use Rattle.message.specs.Layout.{client_count};
 ghost use Rattle.trial_core.specs.Sizes.{log_length};

@@ -1,6 +1,8 @@
 // The whole lines of a buffer, answered and printed. What is printed for which line is the contract of `trial_lines::answers`; what is held
 // of a line that is not yet whole, and of one that is over_long, that of `trial_bytes::keep`. An inner step of the trial program.
 // Definitions: specs/Whole.antt.
+#![tactic(auto)]
+
 ghost use Rattle.std.specs.Prelude.{◌+◌, ◌≤◌, ◌<◌, ◌^◌, length};
 ghost use Rattle.trial_core.specs.Moves.{lent_of};
 ghost use Rattle.trial_buffer.specs.Whole.{Whole};

@@ -1,4 +1,6 @@
 // What the trial program holds of its input, as bytes. Definitions: specs/Held.antt.
+#![tactic(auto)]
+
 ghost use Rattle.std.specs.Prelude.{◌≡◌, ◌+◌, ◌-◌, ◌≤◌, ◌<◌, length, take};
 ghost use Rattle.trial_bytes.specs.Held.{Ends, Keeps};
 

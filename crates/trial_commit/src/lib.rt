@@ -1,4 +1,6 @@
 // A commit reaches the server without delay; its broadcasts go to the log. Definitions: specs/Trial.antt of trial_core.
+#![tactic(auto)]
+
 ghost use Rattle.std.specs.Prelude.{◌≡◌, ◌+◌, ◌*◌, ◌<◌, ◌≤◌, length};
 ghost use Rattle.message.specs.Layout.{client_count, commit_length};
 ghost use Rattle.trial_core.specs.Sizes.{commit_room, log_length};

@@ -1,4 +1,6 @@
 // The trial of document 01: eight clients, the server and the lines between them. Its state; definitions: specs/Trial.antt.
+#![tactic(auto)]
+
 use replica::Replica;
 use server::Server;
 use trial_said::LineWord;

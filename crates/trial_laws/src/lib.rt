@@ -1,1 +1,2 @@
 // Theorems on trials: no code. Definitions: specs/TrialRuns.antt.
+#![tactic(auto)]

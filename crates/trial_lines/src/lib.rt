@@ -1,4 +1,6 @@
 // Lines of input answered into a buffer. Definitions: specs/Lines.antt.
+#![tactic(auto)]
+
 ghost use Rattle.std.specs.Prelude.{◌+◌, ◌≤◌, ◌<◌, ◌^◌, length};
 ghost use Rattle.trial_core.specs.Moves.{lent_of};
 ghost use Rattle.trial_lines.specs.Lines.{Answers};

@@ -1,4 +1,6 @@
 // What a line of input does with a client: invoking, and taking the head of a line. Definitions: specs/Trial.antt of trial_core.
+#![tactic(auto)]
+
 ghost use Rattle.std.specs.Prelude.{◌≡◌, List, ℕ, ◌<◌, ◌≤◌, get_or, length};
 ghost use Rattle.message.specs.Layout.{client_count};
 ghost use Rattle.trial_core.specs.Sizes.{invoke_room, invokes_length, log_length, replies_length};

@@ -1,5 +1,7 @@
 // Offering the invokes of clients to the server (document 01, "Cases": "`IN` and `CO` reach the relay without delay", "offered again …").
 // Definitions: specs/Trial.antt of trial_core.
+#![tactic(auto)]
+
 ghost use Rattle.std.specs.Prelude.{◌≡◌, cond, ◌+◌, ◌*◌, ◌<◌, get_or, length};
 ghost use Rattle.message.specs.Layout.{client_count, item_length, reply_head};
 ghost use Rattle.trial_core.specs.Sizes.{invokes_length, replies_length};

@@ -1,4 +1,6 @@
 // What an outcome of a client or of the server prints, and whether it is a success. Definitions: specs/Trial.antt of trial_core.
+#![tactic(auto)]
+
 ghost use Rattle.std.specs.Prelude.{◌≡◌};
 ghost use Rattle.trial_said.specs.Word.{word_of};
 ghost use Rattle.replica.specs.Outcome as O;

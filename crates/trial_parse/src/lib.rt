@@ -1,4 +1,6 @@
 // A line of the trial program's input read. Definition: specs/Parse.antt.
+#![tactic(auto)]
+
 ghost use Rattle.std.specs.Prelude.{◌≡◌};
 ghost use Rattle.trial_words.specs.Words.{asked};
 ghost use Rattle.trial_parse.specs.Parse.{parse};

@@ -1,4 +1,6 @@
 // A line of the trial program's output written. Definition: specs/Line.antt.
+#![tactic(auto)]
+
 ghost use Rattle.std.specs.Prelude.{◌≡◌, ◌+◌, ◌≤◌, length};
 ghost use Rattle.slices.specs.Bytes.{put};
 ghost use Rattle.trial_said.specs.Word.{word_of};

@@ -1,4 +1,6 @@
 // Changes to the lines to the clients, and what stands at the head of one. Definitions: specs/Trial.antt of trial_core.
+#![tactic(auto)]
+
 ghost use Rattle.std.specs.Prelude.{◌≡◌, true, ◌<◌};
 ghost use Rattle.message.specs.Layout.{client_count};
 ghost use Rattle.trial_core.specs.Trial.{with_reply, with_refused, without_reply, without_broadcast, reply_first, broadcast_first};

@@ -1,4 +1,6 @@
 // Whether an invoke has room: few enough broadcasts undelivered, and a place to give. Definitions: specs/Trial.antt of trial_core.
+#![tactic(auto)]
+
 ghost use Rattle.std.specs.Prelude.{◌≡◌, ◌+◌, leb};
 ghost use Rattle.message.specs.Layout.{client_count};
 ghost use Rattle.trial_core.specs.Sizes.{full_at};

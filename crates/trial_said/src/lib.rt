@@ -1,4 +1,6 @@
 // What a line of input gives, as a word with its data (document 01, "Cases"). Definitions: specs/Word.antt.
+#![tactic(auto)]
+
 ghost use Rattle.std.specs.Prelude.{◌≡◌, ◌++◌, ◌+◌, ◌≤◌, length};
 ghost use Rattle.slices.specs.Bytes.{put};
 ghost use Rattle.text_put.specs.Datum.{datum};

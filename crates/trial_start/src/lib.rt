@@ -1,4 +1,6 @@
 // The trial program's start (document 01, "Cases"). Definitions: specs/Trial.antt of trial_core.
+#![tactic(auto)]
+
 ghost use Rattle.std.specs.Prelude.{◌≡◌, replicate};
 ghost use Rattle.message.specs.Layout.{key_length, keys_length};
 ghost use Rattle.client_open.specs.Open.{open_step};

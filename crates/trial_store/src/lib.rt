@@ -1,4 +1,6 @@
 // A trial with what a move left, and a line that moves nothing. Definitions: specs/Trial.antt of trial_core, specs/Step.antt.
+#![tactic(auto)]
+
 ghost use Rattle.std.specs.Prelude.{◌≡◌, List, ℕ, ◌<◌, get_or, set};
 ghost use Rattle.replica.specs.Replica.{zero_replica};
 ghost use Rattle.trial_said.specs.Word.{bad};

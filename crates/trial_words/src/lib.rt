@@ -1,4 +1,6 @@
 // What the words of a line of input ask (document 01, "Cases"). Definitions: specs/Words.antt.
+#![tactic(auto)]
+
 ghost use Rattle.std.specs.Prelude.{◌≡◌, [], ◌∷◌};
 ghost use Rattle.trial_words.specs.Words.{asked, from_words};
 

@@ -1,4 +1,6 @@
 // Runs the digest and the tag on the cases of standard input, and prints each: tests/vectors.py has the form of the lines.
+#![tactic(auto)]
+
 ghost use Rattle.std.specs.Prelude.{◌≡◌, ◌≤◌, length};
 
 use hmac::Tagged;

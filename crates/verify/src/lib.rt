@@ -1,4 +1,6 @@
 // Tags by the clients' keys, and values of the hash chain. Definitions: specs/Verify.antt.
+#![tactic(auto)]
+
 ghost use Rattle.std.specs.Prelude.{◌≡◌, List, ℕ, ◌≤◌};
 ghost use Rattle.slices.specs.Bytes.{same};
 ghost use Rattle.message.specs.Layout.{client_count};
