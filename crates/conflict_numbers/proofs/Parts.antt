@@ -160,19 +160,19 @@ module _ {S R T A K : Type 0} {val : Operation → S → S} {res : Operation →
   Up k ws qs =
       (x y : T) (s u : S) (os ps : List Operation) → Parted (test k) (part k) os ps → Same k x s → Same k y u → Differs val' res' x y ps qs → Differs val res s u os ws
 
-  up_own : (k : K) (w : Operation) (ws qs : List Operation) → test k w ≡ true → Up k ws qs → {x y : T} (s u : S) {os ps : List Operation} → Parted (test k) (part k) os ps → Same k x s → Same k y u
+  up_own : (k : K) (w : Operation) (ws qs : List Operation) → test k w ≡ true → Up k ws qs → (x y : T) (s u : S) {os ps : List Operation} → Parted (test k) (part k) os ps → Same k x s → Same k y u
       → Differs val' res' x y ps (part k w ∷ qs) → Differs val res s u os (w ∷ ws)
-  up_own k w ws qs q f {x} {y} s u none ex ey (here n) = here (differs_too k w x y s u q ex ey n)
-  up_own k w ws qs q f {x} {y} s u none ex ey (step d) = step (f _ _ (val w s) (val w u) _ _ none (ran_same k w x s q ex) (ran_same k w y u q ey) d)
-  up_own k w ws qs q f s u (fails p a) ex ey d = skip (up_own k w ws qs q f s u a ex ey d)
-  up_own k w ws qs q f {x} {y} s u (passes p a) ex ey (here n) = here (differs_too k w x y s u q ex ey n)
-  up_own k w ws qs q f {x} {y} s u (passes p a) ex ey (step d) = step (f _ _ (val w s) (val w u) _ _ (passes p a) (ran_same k w x s q ex) (ran_same k w y u q ey) d)
-  up_own k w ws qs q f s u (passes p a) ex ey (skip d) = skip (up_own k w ws qs q f s u a ex ey d)
-  up_own k w ws qs q f {x} s u (passes {e = o} p a) ex ey (runs d) = runs (up_own k w ws qs q f (val o s) u a (ran_same k o x s p ex) ey d)
+  up_own k w ws qs q f x y s u none ex ey (here n) = here (differs_too k w x y s u q ex ey n)
+  up_own k w ws qs q f x y s u none ex ey (step d) = step (f _ _ (val w s) (val w u) _ _ none (ran_same k w x s q ex) (ran_same k w y u q ey) d)
+  up_own k w ws qs q f x y s u (fails p a) ex ey d = skip (up_own k w ws qs q f x y s u a ex ey d)
+  up_own k w ws qs q f x y s u (passes p a) ex ey (here n) = here (differs_too k w x y s u q ex ey n)
+  up_own k w ws qs q f x y s u (passes p a) ex ey (step d) = step (f _ _ (val w s) (val w u) _ _ (passes p a) (ran_same k w x s q ex) (ran_same k w y u q ey) d)
+  up_own k w ws qs q f x y s u (passes p a) ex ey (skip d) = skip (up_own k w ws qs q f x y s u a ex ey d)
+  up_own k w ws qs q f x y s u (passes {e = o} p a) ex ey (runs d) = runs (up_own k w ws qs q f (val' (part k o) x) y (val o s) u a (ran_same k o x s p ex) ey d)
 
   up : (k : K) {ws qs : List Operation} → Parted (test k) (part k) ws qs → Up k ws qs
   up k none x y s u os ps a ex ey d = absurd (no_own val' res' d)
-  up k (passes {e = w} {es = ws} {ps = qs} q b) x y s u os ps a ex ey d = up_own k w ws qs q (λ x y s u os ps a ex ey d. up k b x y s u os ps a ex ey d) s u a ex ey d
+  up k (passes {e = w} {es = ws} {ps = qs} q b) x y s u os ps a ex ey d = up_own k w ws qs q (λ x y s u os ps a ex ey d. up k b x y s u os ps a ex ey d) x y s u a ex ey d
   up k (fails {e = w} q b) x y s u os ps a ex ey d = step (up k b x y (val w s) (val w u) os ps a (kept_same k w x s q ex) (kept_same k w y u q ey) d)
 
   pub by_parts : (s u : S) (os ws : List Operation) → Good s → Good u
