@@ -7,7 +7,7 @@ for tool in python3 gcc wc; do command -v "$tool" > /dev/null || { echo "missing
 program=${2:-target/bin/log_export}
 if [ $# -lt 2 ]; then
   command -v rt > /dev/null || { echo "missing: rt"; exit 2; }
-  rt check log_export > /dev/null
+  sh tools/build.sh log_export > /dev/null
 fi
 mkdir -p target/bench
 gcc -std=c11 -O2 -Wall -Wextra bench/log_scan.c -o target/bench/log_scan

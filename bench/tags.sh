@@ -4,8 +4,8 @@ set -eu
 cd "$(dirname "$0")/.."
 for tool in rt gcc objdump python3; do command -v "$tool" > /dev/null || { echo "missing: $tool"; exit 2; }; done
 [ -f /usr/include/openssl/crypto.h ] || { echo "missing: OpenSSL's headers (Debian: libssl-dev)"; exit 2; }
-rt staticlib bench_tags | tail -n 1
-${COP_BUILD:-rt staticlib cop_c} | tail -n 1
+sh tools/build.sh bench_tags | tail -n 1
+${COP_BUILD:-sh tools/build.sh cop_c} | tail -n 1
 mkdir -p target/bench
 gcc -c bench/branches.s -o target/bench/branches.o
 gcc -O2 -Wall -Wl,-z,now bench/tag_paths.c target/staticlib/libcop_c.a target/staticlib/libbench_tags.a -o target/bench/tag_paths

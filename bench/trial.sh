@@ -3,7 +3,7 @@
 set -euo pipefail
 cd "$(dirname "$0")/.."
 for tool in rt python3; do command -v "$tool" > /dev/null || { echo "missing: $tool"; exit 2; }; done
-rt check trial > /dev/null
+sh tools/build.sh trial > /dev/null
 work=$(mktemp -d)
 trap 'rm -rf "$work"' EXIT
 seconds() { python3 - "$@" <<'PY'

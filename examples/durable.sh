@@ -3,7 +3,7 @@
 # is left to do, and holds what they show, and three cells, to durable.out. What a turn shows again is left out.
 set -eu
 cd "$(dirname "$0")/.."
-${COP_BUILD:-rt staticlib cop_c} | tail -n 1
+${COP_BUILD:-sh tools/build.sh cop_c} | tail -n 1
 folder=target/examples/durable.folder
 rm -rf $folder && mkdir -p $folder
 ${CC:-gcc} -std=c99 -O2 -Wall -Wextra -Werror examples/durable.c target/staticlib/libcop_c.a -o target/examples/durable

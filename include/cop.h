@@ -1,5 +1,5 @@
 /* The proved client and server of COP, the digest and the tag, for C and C++ on x86-64 Linux. Link
-   target/staticlib/libcop_c.a, which `rt staticlib cop_c` proves and writes. examples/listing.c uses all of it but
+   target/staticlib/libcop_c.a, which `sh tools/build.sh cop_c` proves and writes. examples/listing.c uses all of it but
    cop_digest and cop_tag.
 
    What each call does is an equation in crates/cop_c/src/lib.rt, proved for every state, every argument and every

@@ -29,7 +29,7 @@ try lines python3 tests/lines.py
 try self_check python3 tests/self_check.py
 if [ -f tests/wrong_runs.py ]; then try wrong_runs python3 tests/wrong_runs.py; fi
 # The library is proved and built once, for all that follow.
-try library rt staticlib cop_c
+try library sh tools/build.sh cop_c
 export COP_BUILD=true
 try exports sh tests/exports.sh
 for folder in examples tests; do

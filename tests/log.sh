@@ -7,6 +7,6 @@ command -v python3 > /dev/null || { echo "missing: python3"; exit 2; }
 program=${3:-target/bin/log_export}
 if [ $# -lt 3 ]; then
     command -v rt > /dev/null || { echo "missing: rt"; exit 2; }
-    rt check log_export | tail -n 1
+    sh tools/build.sh log_export | tail -n 1
 fi
 exec python3 tests/log_differential.py "$program" "${1:-3000}" "${2:-1}"

@@ -1,0 +1,17 @@
+#!/bin/sh
+# Proves and builds one thing: tools/build.sh NAME. A static library goes to target/staticlib/libNAME.a, a program to target/bin/NAME.
+# (The exports of the library cop_digest are the crate cop_digest_c.)
+set -eu
+cd "$(dirname "$0")/.."
+name=$1
+crate=$name
+if [ -d "crates/${name}_c" ]; then crate=${name}_c; fi
+mkdir -p target/staticlib target/bin
+if [ -f "crates/$crate/src/main.rt" ]; then
+    (cd "crates/$crate" && rt run < /dev/null > out.txt 2>&1) || { cat "crates/$crate/out.txt"; rm -f "crates/$crate/out.txt"; exit 1; }
+    rm -f "crates/$crate/out.txt"
+    cp "crates/$crate/out/$crate" "target/bin/$name"
+else
+    (cd "crates/$crate" && rt lib)
+    cp "crates/$crate/out/lib$crate.a" "target/staticlib/lib$name.a"
+fi
