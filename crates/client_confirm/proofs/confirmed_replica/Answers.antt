@@ -1,0 +1,7 @@
+use Rattle.client_broadcast.specs.Broadcast.{confirmed_replica}
+use Rattle.client_broadcast.proofs.Laws.{next_is}
+use Rattle.client_confirm.proofs.confirmed_replica.Goals as goal
+
+pub returns : goal.returns
+unfolding confirmed_replica
+returns c = rw (c.less_one.ensures, c.effect_on-cells.ensures, c.status_shift-statuses.ensures, c.chain_shift-chain.ensures, ← next_is _ _ c.requires.1)
