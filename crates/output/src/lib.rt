@@ -1,56 +1,73 @@
-// Bytes printed, and how many. What a write does, no contract can say; what is counted here is what was handed to a write that succeeded.
+// Bytes printed to a writer, and how many. What a write does, a contract can say where the writer's bytes are known; what is counted here is
+// what was handed to a write that succeeded.
 // Definitions: specs/Sends.antt.
 #![tactic(auto)]
 
-ghost use Rattle.std.specs.Prelude.{◌≡◌, ◌+◌, ◌%◌, ◌^◌, ◌≤◌, true, length};
+ghost use Rattle.std.specs.Prelude.{◌≡◌, ◌+◌, ◌%◌, ◌^◌, ◌≤◌, true, length, take, OnOk};
+ghost use Rattle.std.specs.Io.KnownBytes.{Appends};
 ghost use Rattle.output.specs.Sends.{Sends};
 
-use libc::STDOUT_FILENO;
+use std::io;
+use std::io::Write;
 
-// Whether all writes so far succeeded, and how many bytes they printed, modulo 2^64.
+// Whether all writes so far succeeded, how many bytes they printed, modulo 2^64, and the cause where one failed.
 #[derive(Clone, Copy)]
 pub struct Sent {
     pub ok: bool,
     pub bytes: u64,
+    pub cause: Option<io::Error>,
 }
 
-// Prints the first `n` bytes; false where a write failed, whose cause `errno` has.
-pub fn print(out: &[u8], n: usize) -> bool
+// Prints the first `n` bytes; an error where a write failed.
+pub fn print<W: Write>(writer: &mut W, out: &[u8], n: usize) -> io::Result<()>
     requires { n ≤ length out.now }
+    ensures { OnOk result (Appends (W.contents writer.old) (W.contents writer.new) (take n out.now)) }
 {
-    io::write_all(STDOUT_FILENO, &out[0..n])
+    writer.write_all(&out[0..n])
 }
 
 // `n` bytes more, modulo 2^64.
 pub fn add(bytes: u64, n: usize) -> u64
     ensures { result ≡ (bytes + n) % 2 ^ 64 }
 {
-    std::num::wrapping_add_u64(bytes, n as u64)
+    bytes.wrapping_add(n as u64)
 }
 
 // Nothing printed yet.
 pub fn none() -> Sent
     ensures { (result.bytes ≡ 0) × (result.ok ≡ true) }
 {
-    Sent { ok: true, bytes: 0 }
+    let ok = true;
+    Sent {
+        ok,
+        bytes: 0,
+        cause: None,
+    }
 }
 
 // Prints the first `n` bytes and counts them, unless a write failed before.
-pub fn send(out: &[u8], n: usize, sent: Sent) -> Sent
+pub fn send<W: Write>(writer: &mut W, out: &[u8], n: usize, sent: Sent) -> Sent
     requires { n ≤ length out.now }
-    ensures { Sends sent n result }
+    ensures sends { Sends sent n result }
+    ensures bytes { result.ok ≡ true → Appends (W.contents writer.old) (W.contents writer.new) (take n out.now) }
 {
     if sent.ok {
-        if print(out, n) {
-            return Sent {
-                ok: true,
-                bytes: add(sent.bytes, n),
-            };
+        match print(writer, out, n) {
+            Ok(()) => {
+                return Sent {
+                    ok: true,
+                    bytes: add(sent.bytes, n),
+                    cause: None,
+                };
+            }
+            Err(e) => {
+                return Sent {
+                    ok: false,
+                    bytes: sent.bytes,
+                    cause: Some(e),
+                };
+            }
         }
-        return Sent {
-            ok: false,
-            bytes: sent.bytes,
-        };
     }
     sent
 }
