@@ -1,9 +1,6 @@
 use mathlib.Core.Path.{refl}
 use native.Mathlib.Omega.{arith}
 use Rattle.log_fields.proofs.Places.{text_start, text_order, text_within, text_bytes}
-use Rattle.log_fields.proofs.field.Reads as reads
-use Rattle.log_fields.proofs.field.Lts as lts
-use Rattle.log_fields.proofs.field_part.Reads as field-part-reads
 use Rattle.log_fields.proofs.field.Goals as goal
 
 pub slice_bounds-result-count : goal.slice_bounds-result-count
