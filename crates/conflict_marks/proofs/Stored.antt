@@ -133,3 +133,8 @@ pub repeated : {A : Type 0} (P : A → Type 0) (a d : A) → P a → P d → (n 
 repeated P a d pa pd zero i = pd
 repeated P a d pa pd (suc n) zero = pa
 repeated P a d pa pd (suc n) (suc i) = repeated P a d pa pd n i
+
+-- Whether one of the first k places from `at` on is marked.
+pub record Seen (p : List Bool) (at k : ℕ) (b : Bool) : Type 0 where
+  pub only : b ≡ true → (i : ℕ) × (i < k) × Has p (at + i)
+  pub all : (i : ℕ) → i < k → Has p (at + i) → b ≡ true

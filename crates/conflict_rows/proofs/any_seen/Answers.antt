@@ -1,0 +1,17 @@
+use mathlib.Core.Path.{refl}
+use native.Mathlib.Omega.{arith}
+use Rattle.conflict_marks.proofs.Stored.{clash}
+use Rattle.conflict_rows.proofs.any_seen.Goals as goal
+
+pub returns-then-at-eq0 : goal.returns-then-at-eq0
+returns-then-at-eq0 c =
+    let blank = c.requires.1 in
+    (λ e. absurd (clash refl e), λ (k, h, o). absurd (omega (arith, (blank.middle _ o).0, h, c.if-at-eq0.true)))
+
+pub returns-then-at-eq512 : goal.returns-then-at-eq512
+returns-then-at-eq512 c =
+    let blank = c.requires.1 in
+    (λ e. absurd (clash refl e), λ (k, h, o). absurd (omega (arith, (blank.middle _ o).1, c.if-at-eq512.true)))
+
+pub returns : goal.returns
+returns c = c.any_marked.ensures
