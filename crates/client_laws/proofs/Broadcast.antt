@@ -6,9 +6,8 @@ use mathlib.Core.Bool.{true}
 use lib.Dec.{eqb}
 use lib.ListN.{length}
 use native.Mathlib.Omega.{arith}
-use borrow.Author.Tests.{eqb-true, ne_eqb}
+use borrow.Author.Tests.{eqb-true}
 use Rattle.slices.proofs.Laws.{same_yes}
-use Rattle.operation.specs.Operation.{effect}
 use Rattle.operation.proofs.Temps.{Sixteen, effect_sixteen, effect_temps}
 use Rattle.message.specs.declared.Commit.{Commit}
 use Rattle.message.specs.Message.{commit_of}

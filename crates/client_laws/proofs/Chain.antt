@@ -24,7 +24,7 @@ use Rattle.checks.specs.Checks.{first_no}
 use Rattle.checks.proofs.Laws.{Yes, all_yes, first_append}
 use Rattle.client_reply.specs.Reply.{chain_item, chain_to, chain_after}
 use Rattle.client_reply.proofs.Chain.{item_value-length, chain_length_lem}
-use Rattle.client_reply_check.specs.ReplyChecks.{seq_at, item_value, item_chain_ok, is_uncommitted, item_checks, items_checks, last_item, reply_no}
+use Rattle.client_reply_check.specs.ReplyChecks.{item_value, item_chain_ok, is_uncommitted, item_checks, items_checks, last_item, reply_no}
 use Rattle.client_reply_check.proofs.Laws.{ItemAllowed, item_allowed, form_yes, reply_formed, items_passed, last_passed, last_yes}
 
 by_test : (a b : ℕ) (t : Bool) → ltb b a ≡ t → (a ≤ b) ⊎ (b < a)

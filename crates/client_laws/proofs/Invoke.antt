@@ -6,7 +6,7 @@ use mathlib.Core.Bool.{true, ◌&&◌, or-true}
 use lib.Dec.{leb, eqb}
 use lib.ListN.{length}
 use native.Mathlib.Omega.{arith}
-use borrow.Author.Tests.{leb-true, eqb-true, le-leb, ne_eqb}
+use borrow.Author.Tests.{leb-true, eqb-true, le-leb}
 use Rattle.operation.specs.Operation.{op_ok}
 use Rattle.replica.specs.declared.Replica.{Replica}
 use Rattle.replica.specs.Outcome.{invoked}

@@ -7,7 +7,7 @@ use mathlib.Core.Bool.{Bool, true, false}
 use lib.Dec.{leb, ltb}
 use lib.ListN.{length}
 use native.Mathlib.Omega.{arith}
-use borrow.Author.Tests.{ltb-true, ltb-false, ne_eqb}
+use borrow.Author.Tests.{ltb-true, ltb-false}
 use Rattle.operation.specs.Operation.{no_op}
 use Rattle.message.specs.Message.{reply_count, reply_item}
 use Rattle.replica.specs.declared.Replica.{Replica}
