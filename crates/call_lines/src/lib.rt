@@ -3,13 +3,40 @@
 
 ghost use Rattle.std.specs.Prelude.{◌+◌, ◌≤◌, ◌≡◌, length};
 
-use libc::STDOUT_FILENO;
+use std::io::{Print, Read};
+
+// 65,536 zeros.
+pub fn large_buffer() -> [u8; 65536]
+    ensures { 65536 ≡ length result }
+{
+    [0; 65536]
+}
 
 // Room for the text.
 pub fn text_buffer() -> [u8; 1048576]
     ensures { 1048576 ≡ length result }
 {
     [0; 1048576]
+}
+
+// Reads until `buf` is full, the input ends or a read fails, and answers how many bytes stand at the front of `buf` then.
+pub fn read_full<R: Read>(reader: &mut R, buf: &mut [u8]) -> usize
+    ensures { result ≤ length buf.new }
+{
+    let mut done = 0;
+    while done < buf.len() {
+        let got = reader.read(&mut buf[done..]);
+        match got {
+            Ok(n) => {
+                if n == 0 {
+                    return done;
+                }
+                done += n;
+            }
+            Err(_) => return done,
+        }
+    }
+    done
 }
 
 // Words of a line
@@ -115,7 +142,7 @@ fn copy_within(s: &mut [u8], from: usize, to: usize, n: usize)
 }
 
 // Puts a copy of the state at `from` to `to`, with the bytes of the line's word 4 from the byte on that its word 3 names.
-pub fn change(states: &mut [u8], line: &[u8], from: usize, to: usize, size: u32)
+pub fn change<R: Print>(rt: &R, states: &mut [u8], line: &[u8], from: usize, to: usize, size: u32)
     requires { (from + size ≤ length states.old) × (to + size ≤ length states.old) × (size ≤ 65535) }
 {
     let n = size as usize;
@@ -123,52 +150,58 @@ pub fn change(states: &mut [u8], line: &[u8], from: usize, to: usize, size: u32)
     copy_within(states, from, to, n);
     let at = to + number_at(line, 3, size) as usize;
     bytes_at(line, 4, &mut states[at..e]);
-    print(b"changed");
-    print_digest(&states[to..e]);
+    print(rt, b"changed");
+    print_digest(rt, &states[to..e]);
 }
 
 // Printing
 
-pub fn print(s: &[u8]) {
-    io::write_all(STDOUT_FILENO, s);
+// A write that fails is not told.
+pub fn print<R: Print>(rt: &R, s: &[u8]) {
+    let _ = rt.write_all(s);
 }
 
-pub fn print_end() {
-    print(b"\n");
+pub fn print_end<R: Print>(rt: &R) {
+    print(rt, b"\n");
+}
+
+// A number.
+pub fn print_decimal<R: Print>(rt: &R, n: u64) {
+    let _ = rt.print(n);
 }
 
 // A space and a number.
-fn print_number(n: u64) {
-    print(b" ");
-    io::print_decimal(STDOUT_FILENO, n);
+fn print_number<R: Print>(rt: &R, n: u64) {
+    print(rt, b" ");
+    print_decimal(rt, n);
 }
 
 // A word and a number.
-pub fn print_one(word: &[u8], n: u64) {
-    print(word);
-    print_number(n);
+pub fn print_one<R: Print>(rt: &R, word: &[u8], n: u64) {
+    print(rt, word);
+    print_number(rt, n);
 }
 
 // A word and two numbers.
-pub fn print_two(word: &[u8], m: u64, n: u64) {
-    print(word);
-    print_number(m);
-    print_number(n);
+pub fn print_two<R: Print>(rt: &R, word: &[u8], m: u64, n: u64) {
+    print(rt, word);
+    print_number(rt, m);
+    print_number(rt, n);
 }
 
 // A space and up to 32 bytes in hexadecimal.
-pub fn print_hex(s: &[u8])
+pub fn print_hex<R: Print>(rt: &R, s: &[u8])
     requires { length s.now ≤ 32 }
 {
     let mut line = [32u8; 65];
     let e = text_hex::hex(&mut line, 1, s);
-    print(&line[0..e]);
+    print(rt, &line[0..e]);
 }
 
 // A space and the first eight bytes of the digest.
-pub fn print_digest(s: &[u8])
+pub fn print_digest<R: Print>(rt: &R, s: &[u8])
     requires { length s.now ≤ 65535 }
 {
     let digest = sha256::digest_of(s);
-    print_hex(&digest[0..8]);
+    print_hex(rt, &digest[0..8]);
 }

@@ -1,5 +1,7 @@
 -- What arguments are, what they ask, and how the reading of an input ended.
-use Rattle.std.specs.Prelude.{ℕ, Bool, true, false, cond, List, [], ◌∷◌, eqb, get_or}
+use Rattle.std.specs.Prelude.{ℕ, Bool, true, false, cond, List, [], ◌∷◌, eqb, get_or, None}
+use Rattle.std.specs.declared.option.Option.{Option}
+use Rattle.std.specs.declared.io.Error.{Error}
 use Rattle.slices.specs.Bytes.{same}
 use Rattle.input.specs.declared.Brought.{Brought}
 use Rattle.input.specs.declared.Brought.TheVariants as B
@@ -44,3 +46,10 @@ next_read W.Ended = true
 next_read W.ReadFailed = true
 next_read W.WriteFailed = false
 next_read W.Limit = true
+
+-- a read's cause where a read failed, a write's where a write did
+unfoldable pub cause_of : Why → Option Error → Option Error → Option Error
+cause_of W.Ended read written = None
+cause_of W.ReadFailed read written = read
+cause_of W.WriteFailed read written = written
+cause_of W.Limit read written = None
