@@ -176,6 +176,7 @@ sound-fields l s = (pieces-fields (split-pieces start l s), join-split start l)
 -- fields of that look, joined, are a soundly quoted line with just these fields
 pub fields-sound : (fs : List (List ℕ)) → AllFields fs → (sound (join fs) ≡ true) × (fields (join fs) ≡ fs)
 unfolding join comma_each
+fields-sound [] x' = elim x' [ ]
 fields-sound (f ∷ []) (one w) = let c = field_clean w in (rw (append-nil f) (clean_true start f c), rw (append-nil f) (clean_alone start f c))
 fields-sound (f ∷ g ∷ fs) (more w ws) =
     let c = field_clean w in

@@ -30,10 +30,12 @@ pieces-some (c ∷ t) = either (eqb c 10) (λ e. rw e some) (λ e. rw e (on_some
 
 glue_first : (ps : List (List ℕ)) → Some ps → glue ([] ∷ ps) ≡ 10 ∷ glue ps
 unfolding glue
+glue_first [] x' = elim x' [ ]
 glue_first (p ∷ ps) some = refl
 
 glue_on : (c : ℕ) (ps : List (List ℕ)) → Some ps → glue (on_first c ps) ≡ c ∷ glue ps
 unfolding glue on_first
+glue_on c [] x' = elim x' [ ]
 glue_on c (p ∷ []) some = refl
 glue_on c (p ∷ q ∷ ps) some = refl
 
@@ -100,6 +102,7 @@ lines_none = refl
 -- each piece but the last is a line, less a carriage return
 pub lines_more : (p : List ℕ) (ps : List (List ℕ)) → Some ps → piece_lines (p ∷ ps) ≡ less_return p ∷ piece_lines ps
 unfolding piece_lines
+lines_more p [] x' = elim x' [ ]
 lines_more p (q ∷ ps) some = refl
 
 lines_last : (t : List ℕ) → 0 < length t → piece_lines (t ∷ []) ≡ t ∷ []

@@ -61,6 +61,7 @@ module _ (k : ℕ) (f : List ℕ) where
 -- ---- the pieces of the text with the column are the pieces with its fields
 add_pieces_lem : (k : ℕ) (fs : ℕ → List ℕ) (ps : List (List ℕ)) → Some ps → Some (add_pieces k fs ps)
 unfolding add_pieces
+add_pieces_lem k fs [] x' = elim x' [ ]
 add_pieces_lem k fs (p ∷ []) some = some
 add_pieces_lem k fs (p ∷ q ∷ ps) some = some
 
@@ -75,6 +76,7 @@ add_free k fs n (L.more {p = p} m (L.more i r)) =
     L.more (free_append (add_at k (fs 0) l) (return_of p) e (return_free p m)) (add_free k (λ i. fs (suc i)) (λ i. n (suc i)) (L.more i r))
 
 pieces_back : (ps : List (List ℕ)) → Some ps → Free ps → cut 10 (glue ps) ≡ ps
+pieces_back [] x'' r = elim x'' [ ]
 pieces_back (p ∷ ps) some r = cut-glue p ps r
 
 -- ---- and its lines are the lines with its fields

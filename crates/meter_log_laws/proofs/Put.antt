@@ -18,6 +18,7 @@ pub data Some : List (List ℕ) → Type 0 where
 
 in_some : (b : ℕ) (fs : List (List ℕ)) → Some fs → Some (in_first b fs)
 unfolding in_first
+in_some b [] x' = elim x' [ ]
 in_some b (f ∷ fs) some = some
 
 -- a line has one field or more
@@ -28,20 +29,24 @@ split-some q (b ∷ l) = either (separates q b) (λ e. rw e some) (λ e. rw e (i
 
 join_in : (b : ℕ) (fs : List (List ℕ)) → Some fs → join (in_first b fs) ≡ b ∷ join fs
 unfolding in_first join
+join_in b [] x' = elim x' [ ]
 join_in b (f ∷ fs) some = refl
 
 insert_in : (k : ℕ) (f : List ℕ) (b : ℕ) (fs : List (List ℕ)) → Some fs → insert_at (suc k) f (in_first b fs) ≡ in_first b (insert_at (suc k) f fs)
 unfolding in_first insert_at
+insert_in k f b [] x' = elim x' [ ]
 insert_in k f b (g ∷ fs) some = refl
 
 insert-some : (k : ℕ) (f : List ℕ) (fs : List (List ℕ)) → Some fs → Some (insert_at k f fs)
 unfolding insert_at
+insert-some (suc k) f [] s = elim s [ ]
 insert-some zero f fs s = some
 insert-some (suc k) f (g ∷ fs) some = some
 
 -- commas before the fields are a comma and then commas between them
 pub each-join : (fs : List (List ℕ)) → Some fs → comma_each fs ≡ 44 ∷ join fs
 unfolding comma_each join
+each-join [] x' = elim x' [ ]
 each-join (f ∷ fs) some = refl
 
 -- joined again, the fields are the line

@@ -27,6 +27,7 @@ each_spot (suc k) (g ∷ gs) = spot_more (44 ∷ g) (each_spot k gs)
 
 join_spot : (k : ℕ) (gs : List (List ℕ)) → Some gs → Spot (join gs) (λ f. join (insert_at k f gs))
 unfolding join insert_at
+join_spot (suc k) [] s = elim s [ ]
 join_spot zero gs s = before [] (join gs) refl (λ f. rw (each-join gs s))
 join_spot (suc k) (g ∷ gs) some = spot_more g (each_spot k gs)
 

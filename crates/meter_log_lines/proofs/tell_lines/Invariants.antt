@@ -1,0 +1,11 @@
+use Prim.Native.Nat.{◌-◌}
+use mathlib.Core.Path.{◌≡◌}
+use lib.ListN.{length}
+use Rattle.meter_log_lines.proofs.Laws.{So}
+use Rattle.meter_log_lines.proofs.tell_lines.Given as goal
+
+abbrev pub invariant-loop-filled : goal.invariant-loop-filled
+invariant-loop-filled l = (l.room ≡ length l.initial.out) × So l.initial.g l.number l.text l.initial.out l.g l.out l.count l.at l.filled
+
+abbrev pub decreases-loop-filled : goal.decreases-loop-filled
+decreases-loop-filled l = length l.text - l.at

@@ -1,0 +1,11 @@
+use borrow.Author.Tests.{lt-ltb, le-ltb}
+use Rattle.meter_log_told.specs.Told.{tell_last}
+use Rattle.meter_log_told.proofs.tell_last.Goals as goal
+
+pub returns-then-s-gt-LINE_LIMIT : goal.returns-then-s-gt-LINE_LIMIT
+unfolding tell_last
+returns-then-s-gt-LINE_LIMIT c = rw (lt-ltb _ _ c.if-s-gt-LINE_LIMIT.true) c.tell_long.ensures
+
+pub returns : goal.returns
+unfolding tell_last
+returns c = rw (le-ltb _ _ c.if-s-gt-LINE_LIMIT.false) c.tell_line.ensures
