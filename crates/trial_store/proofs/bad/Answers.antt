@@ -1,11 +1,7 @@
 use Rattle.trial_store.proofs.Laws.{unmoved_is}
 use Rattle.trial_core.specs.Moves.{lent_of}
 use Rattle.trial_said.specs.Word.{bad}
-use Rattle.trial_store.proofs.bad.Statement.{statement}
-use Rattle.trial_store.proofs.bad.Tie as tie
+use Rattle.trial_store.proofs.bad.Goals as goal
 
-returns : tie.Need-returns
+pub returns : goal.returns
 returns c = λ log replies invokes. unmoved_is c.args.t (lent_of log replies invokes) 0 bad
-
-pub bad-spec : {M : Type 1} → statement M
-bad-spec = tie.close (tie.spec returns)

@@ -1,0 +1,30 @@
+use native.Mathlib.Omega.{arith}
+use lib.ListN.{get_or}
+use Prim.Native.Nat.{ℕ, ◌+◌, ◌-◌, ◌*◌}
+use mathlib.Core.Path.{◌≡◌, sym, ◌∙◌}
+use Rattle.trial_moves.proofs.Delivering.{reply_goes, reply-stops}
+use Rattle.trial_moves.proofs.deliver_reply.Goals as goal
+
+pub returns-then-is_success : goal.returns-then-is_success
+returns-then-is_success c =
+    let a = c.args in
+    let q = c.receive-q in
+    let n : ℕ = get_or a.l.lengths a.i 0 in
+    let hk : a.i * 1315 + n - a.i * 1315 ≡ n = omega arith in
+    λ invokes.
+    reply_goes a.r a.s a.l a.i a.log.now a.replies.now invokes (a.i * 1315 + n - a.i * 1315) hk q.ensures.0 c.told_said-said.ensures
+    (sym c.is_success.ensures ∙ c.if-is_success.true)
+    q.ensures.1
+    c.commit-server.ensures.0
+    c.commit-server.ensures.1
+    c.without_reply-lines.ensures
+
+pub returns-else-is_success : goal.returns-else-is_success
+returns-else-is_success c =
+    let a = c.args in
+    let q = c.receive-q in
+    let n : ℕ = get_or a.l.lengths a.i 0 in
+    let hk : a.i * 1315 + n - a.i * 1315 ≡ n = omega arith in
+    λ invokes.
+    reply-stops a.r a.s a.l a.i a.log.now a.replies.now invokes (a.i * 1315 + n - a.i * 1315) hk q.ensures.0 c.told_said-said.ensures
+    (sym c.is_success.ensures ∙ c.if-is_success.false)
