@@ -1,15 +1,14 @@
 -- Laws of the checks of the server's call: which number decides, and what a call without a no implies. Assumes nothing.
 use Prim.Native.Nat.{ℕ, ◌+◌, ◌-◌, ◌*◌, ◌<◌, ◌≤◌}
 use mathlib.Core.Path.{◌≡◌, refl, sym, ap, ◌∙◌}
-use mathlib.Core.List.{List, [], ◌∷◌, ◌++◌}
+use mathlib.Core.List.{List, ◌++◌}
 use mathlib.Core.Bool.{Bool, true, false, cond, ◌&&◌, ◌||◌, and-false, true≢false}
-use lib.Dec.{leb, eqb}
+use lib.Dec.{eqb}
 use lib.ListN.{length, set}
 use native.Mathlib.Omega.{arith}
 use borrow.Author.Tests.{leb-true, ltb-true}
-use Rattle.checks.specs.Checks.{every, first_no}
+use Rattle.checks.specs.Checks.{first_no}
 use Rattle.checks.proofs.Laws.{Among, and_yes, all_yes, first_stays, first_zero, first_among}
-use Rattle.operation.specs.Operation.{op_ok}
 use Rattle.message.specs.declared.Item.{Item}
 use Rattle.message.specs.declared.Commit.{Commit}
 use Rattle.message.specs.Layout.{commit_mark}

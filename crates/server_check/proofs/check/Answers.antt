@@ -1,12 +1,11 @@
 use mathlib.Core.Path.{◌≡◌, sym, ap, ◌∙◌}
-use mathlib.Core.Bool.{true, false}
+use mathlib.Core.Bool.{false}
 use lib.Dec.{eqb}
 use native.Mathlib.Omega.{arith}
 use borrow.Author.Tests.{ne_eqb}
 use Rattle.checks.specs.Checks.{first_no}
 use Rattle.message.specs.declared.Item.{Item}
 use Rattle.message.specs.declared.Commit.{Commit}
-use Rattle.message.specs.Message.{is_invoke}
 use Rattle.message.proofs.Laws.{invoke_length_lem}
 use Rattle.server.specs.Server.{item_ok, line_checks, placing_checks, commit_checks}
 use Rattle.server.specs.Slots.{server_of}

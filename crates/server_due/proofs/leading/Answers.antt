@@ -1,6 +1,5 @@
 use native.Mathlib.Omega.{arith}
 use Rattle.server_due.proofs.Laws.{due_stop, due_go, due_end}
-use Prim.Native.Nat.{◌-◌}
 use borrow.Author.Rules.{rules}
 use Rattle.server_due.proofs.leading.Goals as goal
 

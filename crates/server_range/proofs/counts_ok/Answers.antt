@@ -1,4 +1,3 @@
-use Prim.Native.Nat.{◌-◌}
 use mathlib.Core.Path.{refl, ◌∙◌, sym}
 use borrow.Author.Tests.{lt-leb, le-leb}
 use lib.Dec.{leb}

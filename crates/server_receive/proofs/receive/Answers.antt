@@ -1,4 +1,4 @@
-use Prim.Native.Nat.{ℕ, ◌+◌, ◌-◌, ◌*◌, ◌<◌, ◌≤◌}
+use Prim.Native.Nat.{◌+◌, ◌-◌, ◌*◌, ◌≤◌}
 use mathlib.Core.Path.{◌≡◌, refl, sym, ap, ◌∙◌}
 use mathlib.Core.Bool.{false}
 use lib.Dec.{eqb}
@@ -9,8 +9,7 @@ use borrow.Author.Rules.{rules}
 use Rattle.slices.proofs.Laws.{put-length}
 use Rattle.message.specs.Message.{item_bytes}
 use Rattle.message.proofs.Laws.{invoke_length_lem, item_length_lem}
-use Rattle.server.specs.declared.Server.{Server}
-use Rattle.server.specs.Server.{refused, slot_of, placed_server, stored_server, server_no}
+use Rattle.server.specs.Server.{refused, slot_of, server_no}
 use Rattle.server.specs.Slots.{with_slots, server_of}
 use Rattle.server_check.proofs.Laws.{Placing, Storing, no_refusal, placing, storing, storing_long}
 use Rattle.server_receive.proofs.Laws.{placed-parts, stored_parts, passed_parts, stops, places, passes, keeps}
