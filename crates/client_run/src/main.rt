@@ -4,7 +4,6 @@
 
 ghost use Rattle.std.specs.Prelude.{◌+◌, ◌≤◌, ◌≡◌, length};
 
-use libc::{STDIN_FILENO, STDOUT_FILENO};
 use operation::{Cells, Operation, Response};
 use replica::{Event, Outcome, Replica, Stepped};
 
@@ -18,23 +17,24 @@ fn slot(line: &[u8], k: usize) -> usize
 // Printing
 
 // The word, the sequence number and the response, which has a minus sign where it is negative.
-fn print_answer(seq: u32, response: Response) {
-    call_lines::print_one(b"answer", seq as u64);
+fn print_answer<R: Print>(rt: &R, seq: u32, response: Response) {
+    call_lines::print_one(rt, b"answer", seq as u64);
     if response < 0 {
-        call_lines::print(b" -");
+        call_lines::print(rt, b" -");
     } else {
-        call_lines::print(b" ");
+        call_lines::print(rt, b" ");
     }
-    io::print_decimal(STDOUT_FILENO, text::magnitude(response) as u64);
+    call_lines::print_decimal(rt, text::magnitude(response) as u64);
 }
 
-fn print_event(event: Event) {
+fn print_event<R: Print>(rt: &R, event: Event) {
     match event {
-        Event::Opened => call_lines::print(b"opened"),
-        Event::Invoked(count) => call_lines::print_one(b"made", count as u64),
-        Event::Responded { seq, response } => print_answer(seq, response),
-        Event::Aborted { seq } => call_lines::print_one(b"aside", seq as u64),
+        Event::Opened => call_lines::print(rt, b"opened"),
+        Event::Invoked(count) => call_lines::print_one(rt, b"made", count as u64),
+        Event::Responded { seq, response } => print_answer(rt, seq, response),
+        Event::Aborted { seq } => call_lines::print_one(rt, b"aside", seq as u64),
         Event::Confirmed { seq, status } => call_lines::print_two(
+            rt,
             b"confirm",
             seq as u64,
             status as u64,
@@ -42,11 +42,19 @@ fn print_event(event: Event) {
     }
 }
 
-fn print_outcome(outcome: Outcome) {
+fn print_outcome<R: Print>(rt: &R, outcome: Outcome) {
     match outcome {
-        Outcome::Success(event) => print_event(event),
-        Outcome::Refused(why) => call_lines::print_one(b"no", replica::refusal_number(why) as u64),
-        Outcome::Halted(why) => call_lines::print_one(b"halt", replica::halt_number(why) as u64),
+        Outcome::Success(event) => print_event(rt, event),
+        Outcome::Refused(why) => call_lines::print_one(
+            rt,
+            b"no",
+            replica::refusal_number(why) as u64,
+        ),
+        Outcome::Halted(why) => call_lines::print_one(
+            rt,
+            b"halt",
+            replica::halt_number(why) as u64,
+        ),
     }
 }
 
@@ -148,7 +156,7 @@ fn store(state: &mut [u8], r: Replica) {
 
 fn open(line: &[u8]) -> Stepped {
     let number = call_lines::byte_at(line, 2);
-    let mut keys = io::buffer();
+    let mut keys = [0u8; 4096];
     let n = call_lines::bytes_at(line, 3, &mut keys);
     client::open(number, &keys[0..n])
 }
@@ -162,7 +170,7 @@ fn invoke(r: Replica, line: &[u8], out: &mut [u8]) -> Stepped {
 }
 
 fn receive(r: Replica, line: &[u8], out: &mut [u8]) -> Stepped {
-    let mut m = io::buffer();
+    let mut m = [0u8; 4096];
     let n = call_lines::bytes_at(line, 4, &mut m);
     client::receive(r, &m[0..n], out)
 }
@@ -194,18 +202,18 @@ fn buffer() -> [u8; 128]
 }
 
 // Prints the outcome, keeps the replica, and prints its digest.
-fn keep_state(states: &mut [u8], to: usize, stepped: Stepped)
+fn keep_state<R: Print>(rt: &R, states: &mut [u8], to: usize, stepped: Stepped)
     requires { to + 1398 ≤ length states.old }
 {
     let replica = stepped.replica;
     let outcome = stepped.outcome;
-    print_outcome(outcome);
+    print_outcome(rt, outcome);
     let e = to + 1398;
     store(&mut states[to..e], replica);
-    call_lines::print_digest(&states[to..e]);
+    call_lines::print_digest(rt, &states[to..e]);
 }
 
-fn call(states: &mut [u8], line: &[u8], letter: u8)
+fn call<R: Print>(rt: &R, states: &mut [u8], line: &[u8], letter: u8)
     requires { 5592 ≤ length states.old }
 {
     let from = slot(line, 1);
@@ -214,38 +222,38 @@ fn call(states: &mut [u8], line: &[u8], letter: u8)
     let r = replica_of(&states[from..e]);
     let mut out = buffer();
     let stepped = step_in(r, line, letter, &mut out);
-    keep_state(states, to, stepped);
-    call_lines::print_digest(&out);
+    keep_state(rt, states, to, stepped);
+    call_lines::print_digest(rt, &out);
 }
 
 // A line's first letter says what it asks.
-fn one(states: &mut [u8], line: &[u8])
+fn one<R: Print>(rt: &R, states: &mut [u8], line: &[u8])
     requires { 5592 ≤ length states.old }
 {
     let letter = call_lines::first_letter(line);
     if letter == b'#' {
-        call_lines::print(line);
+        call_lines::print(rt, line);
         return;
     }
     if letter == b'o' {
-        keep_state(states, slot(line, 1), open(line));
+        keep_state(rt, states, slot(line, 1), open(line));
         return;
     }
     if letter == b'c' {
-        call_lines::change(states, line, slot(line, 1), slot(line, 2), 1398);
+        call_lines::change(rt, states, line, slot(line, 1), slot(line, 2), 1398);
         return;
     }
-    call(states, line, letter);
+    call(rt, states, line, letter);
 }
 
-fn lines(states: &mut [u8], text: &[u8])
+fn lines<R: Print>(rt: &R, states: &mut [u8], text: &[u8])
     requires { 5592 ≤ length states.old }
 {
     let mut at = 0;
     while at < text.len() {
         let e = call_lines::end(text, at, 10);
-        one(states, &text[at..e]);
-        call_lines::print_end();
+        one(rt, states, &text[at..e]);
+        call_lines::print_end(rt);
         at = e + 1;
     }
 }
@@ -256,9 +264,9 @@ fn zeros() -> [u8; 5592]
     [0; 5592]
 }
 
-fn main() {
+fn main(rt: HostRuntime) {
     let mut states = zeros();
     let mut text = call_lines::text_buffer();
-    let n = io::read_full(STDIN_FILENO, &mut text);
-    lines(&mut states, &text[..n]);
+    let n = call_lines::read_full(&mut rt.stdin(), &mut text);
+    lines(&rt, &mut states, &text[..n]);
 }

@@ -4,7 +4,6 @@
 
 ghost use Rattle.std.specs.Prelude.{◌+◌, ◌≤◌, ◌≡◌, length};
 
-use libc::STDIN_FILENO;
 use server::{Served, Server, ServerEvent, ServerOutcome};
 
 // The place of a state: that of the second one for a number above 0.
@@ -16,17 +15,18 @@ fn slot(line: &[u8], k: usize) -> usize
 
 // Printing
 
-fn print_event(event: ServerEvent) {
+fn print_event<R: Print>(rt: &R, event: ServerEvent) {
     match event {
-        ServerEvent::Placed(seq) => call_lines::print_one(b"placed", seq as u64),
-        ServerEvent::Broadcast(n) => call_lines::print_one(b"passed", n as u64),
+        ServerEvent::Placed(seq) => call_lines::print_one(rt, b"placed", seq as u64),
+        ServerEvent::Broadcast(n) => call_lines::print_one(rt, b"passed", n as u64),
     }
 }
 
-fn print_outcome(outcome: ServerOutcome) {
+fn print_outcome<R: Print>(rt: &R, outcome: ServerOutcome) {
     match outcome {
-        ServerOutcome::Success(event) => print_event(event),
+        ServerOutcome::Success(event) => print_event(rt, event),
         ServerOutcome::Refused(why) => call_lines::print_one(
+            rt,
             b"no",
             server::refusal_number(why) as u64,
         ),
@@ -120,19 +120,19 @@ fn store(state: &mut [u8], s: Server) {
 }
 
 // Keeps the state, and prints its digest.
-fn keep_state(states: &mut [u8], to: usize, s: Server)
+fn keep_state<R: Print>(rt: &R, states: &mut [u8], to: usize, s: Server)
     requires { to + 3432 ≤ length states.old }
 {
     let e = to + 3432;
     store(&mut states[to..e], s);
-    call_lines::print_digest(&states[to..e]);
+    call_lines::print_digest(rt, &states[to..e]);
 }
 
 // Calls
 
 fn receive(s: Server, line: &[u8], out: &mut [u8]) -> Served {
     let number = call_lines::byte_at(line, 3);
-    let mut m = io::buffer();
+    let mut m = [0u8; 4096];
     let n = call_lines::bytes_at(line, 5, &mut m);
     server_receive::receive(s, number, &m[0..n], out)
 }
@@ -151,7 +151,7 @@ fn buffer() -> [u8; 4096]
     [0xaa; 4096]
 }
 
-fn call(states: &mut [u8], line: &[u8])
+fn call<R: Print>(rt: &R, states: &mut [u8], line: &[u8])
     requires { 6864 ≤ length states.old }
 {
     let from = slot(line, 1);
@@ -162,46 +162,46 @@ fn call(states: &mut [u8], line: &[u8])
     let served = receive_in(s, line, &mut out);
     let server = served.server;
     let outcome = served.outcome;
-    print_outcome(outcome);
-    keep_state(states, to, server);
-    call_lines::print_digest(&out);
+    print_outcome(rt, outcome);
+    keep_state(rt, states, to, server);
+    call_lines::print_digest(rt, &out);
 }
 
-fn fresh_at(states: &mut [u8], line: &[u8])
+fn fresh_at<R: Print>(rt: &R, states: &mut [u8], line: &[u8])
     requires { 6864 ≤ length states.old }
 {
-    call_lines::print(b"fresh");
-    keep_state(states, slot(line, 1), server::fresh());
+    call_lines::print(rt, b"fresh");
+    keep_state(rt, states, slot(line, 1), server::fresh());
 }
 
 // A line's first letter says what it asks.
-fn one(states: &mut [u8], line: &[u8])
+fn one<R: Print>(rt: &R, states: &mut [u8], line: &[u8])
     requires { 6864 ≤ length states.old }
 {
     let letter = call_lines::first_letter(line);
     if letter == b'#' {
-        call_lines::print(line);
+        call_lines::print(rt, line);
         return;
     }
     if letter == b'f' {
-        fresh_at(states, line);
+        fresh_at(rt, states, line);
         return;
     }
     if letter == b'c' {
-        call_lines::change(states, line, slot(line, 1), slot(line, 2), 3432);
+        call_lines::change(rt, states, line, slot(line, 1), slot(line, 2), 3432);
         return;
     }
-    call(states, line);
+    call(rt, states, line);
 }
 
-fn lines(states: &mut [u8], text: &[u8])
+fn lines<R: Print>(rt: &R, states: &mut [u8], text: &[u8])
     requires { 6864 ≤ length states.old }
 {
     let mut at = 0;
     while at < text.len() {
         let e = call_lines::end(text, at, 10);
-        one(states, &text[at..e]);
-        call_lines::print_end();
+        one(rt, states, &text[at..e]);
+        call_lines::print_end(rt);
         at = e + 1;
     }
 }
@@ -212,9 +212,9 @@ fn zeros() -> [u8; 6864]
     [0; 6864]
 }
 
-fn main() {
+fn main(rt: HostRuntime) {
     let mut states = zeros();
     let mut text = call_lines::text_buffer();
-    let n = io::read_full(STDIN_FILENO, &mut text);
-    lines(&mut states, &text[..n]);
+    let n = call_lines::read_full(&mut rt.stdin(), &mut text);
+    lines(&rt, &mut states, &text[..n]);
 }

@@ -8,6 +8,7 @@ ghost use Rattle.trial_core.specs.Moves.{lent_of};
 ghost use Rattle.trial_buffer.specs.Whole.{Whole};
 
 use output::Sent;
+use std::io::Write;
 use trial_core::Trial;
 
 // After the lines of the buffer: the trial, how many lines there were, how many bytes are held that are not yet a line, and what was sent.
@@ -21,7 +22,8 @@ pub struct After {
 
 // Answers the whole lines among the first `n` bytes, the first as line `first` + 1, and prints what they give; what stands after them is
 // held. `answers` stops where `out` has little room, so it is called until it uses nothing.
-pub fn whole_lines(
+pub fn whole_lines<W: Write>(
+    writer: &mut W,
     start: Trial,
     first: u64,
     before: Sent,
@@ -48,7 +50,7 @@ pub fn whole_lines(
         number += q.count;
         used = q.used;
         at += used;
-        let more = output::send(out, q.filled, sent);
+        let more = output::send(writer, out, q.filled, sent);
         sent = more;
     }
     let held = trial_bytes::keep(buf, at, n);

@@ -4,7 +4,6 @@
 ghost use Rattle.std.specs.Prelude.{◌≡◌, ◌≤◌, length};
 
 use hmac::Tagged;
-use libc::STDIN_FILENO;
 use sha256::Digested;
 
 // Puts the first n bytes there again and again, up to `total`.
@@ -30,60 +29,60 @@ fn spelled(line: &[u8], k: usize, out: &mut [u8]) -> usize
 }
 
 // The label, and the first bytes of a digest or tag.
-fn show(line: &[u8], bytes: &[u8; 32]) {
+fn show<R: Print>(rt: &R, line: &[u8], bytes: &[u8; 32]) {
     let shown = call_lines::number_at(line, 2, 32) as usize;
-    call_lines::print(call_lines::nth_word(line, 1));
+    call_lines::print(rt, call_lines::nth_word(line, 1));
     let all = &bytes[..];
-    call_lines::print_hex(&all[0..shown]);
+    call_lines::print_hex(rt, &all[0..shown]);
 }
 
-fn show_refused(line: &[u8]) {
-    call_lines::print(call_lines::nth_word(line, 1));
-    call_lines::print_one(b" refused", 9);
+fn show_refused<R: Print>(rt: &R, line: &[u8]) {
+    call_lines::print(rt, call_lines::nth_word(line, 1));
+    call_lines::print_one(rt, b" refused", 9);
 }
 
-fn digest_case(line: &[u8]) {
-    let mut m = io::large_buffer();
+fn digest_case<R: Print>(rt: &R, line: &[u8]) {
+    let mut m = call_lines::large_buffer();
     let n = spelled(line, 3, &mut m);
     let mut out = [0u8; 32];
     match sha256::digest(&m[0..n], &mut out) {
-        Digested::Done => show(line, &out),
-        Digested::TooLong => show_refused(line),
+        Digested::Done => show(rt, line, &out),
+        Digested::TooLong => show_refused(rt, line),
     }
 }
 
-fn tag_case(line: &[u8]) {
-    let mut k = io::large_buffer();
+fn tag_case<R: Print>(rt: &R, line: &[u8]) {
+    let mut k = call_lines::large_buffer();
     let kn = spelled(line, 3, &mut k);
-    let mut m = io::large_buffer();
+    let mut m = call_lines::large_buffer();
     let n = spelled(line, 5, &mut m);
     let mut out = [0u8; 32];
     match hmac::tag(&k[0..kn], &m[0..n], &mut out) {
-        Tagged::Done => show(line, &out),
-        Tagged::TooLong => show_refused(line),
+        Tagged::Done => show(rt, line, &out),
+        Tagged::TooLong => show_refused(rt, line),
     }
 }
 
-fn one(line: &[u8]) {
+fn one<R: Print>(rt: &R, line: &[u8]) {
     if call_lines::first_letter(line) == b'd' {
-        digest_case(line);
+        digest_case(rt, line);
     } else {
-        tag_case(line);
+        tag_case(rt, line);
     }
 }
 
-fn lines(text: &[u8]) {
+fn lines<R: Print>(rt: &R, text: &[u8]) {
     let mut at = 0;
     while at < text.len() {
         let e = call_lines::end(text, at, 10);
-        one(&text[at..e]);
-        call_lines::print_end();
+        one(rt, &text[at..e]);
+        call_lines::print_end(rt);
         at = e + 1;
     }
 }
 
-fn main() {
-    let mut text = io::large_buffer();
-    let n = io::read_full(STDIN_FILENO, &mut text);
-    lines(&text[..n]);
+fn main(rt: HostRuntime) {
+    let mut text = call_lines::large_buffer();
+    let n = call_lines::read_full(&mut rt.stdin(), &mut text);
+    lines(&rt, &text[..n]);
 }
