@@ -4,7 +4,7 @@
 ghost use Rattle.std.specs.Prelude.{◌≡◌, ◌++◌, ◌+◌, ◌≤◌, length};
 ghost use Rattle.slices.specs.Bytes.{put};
 ghost use Rattle.text_put.specs.Datum.{datum};
-ghost use Rattle.trial_said.specs.Word.{word_of, word_bytes, answer as answerWord};
+ghost use Rattle.trial_said.specs.Word.{word_of, word_bytes, answer as answer_word};
 
 use operation::Response;
 
@@ -49,8 +49,8 @@ fn put_two(out: &mut [u8], at: usize, s: &[u8], m: u32, n: u32) -> usize
 // An answer with its place.
 fn put_answer(out: &mut [u8], at: usize, place: u32, answer: Response) -> usize
     requires { at + 29 ≤ length out.old }
-    ensures { (result ≡ at + length (word_bytes (answerWord place answer)))
-        × (out.new ≡ put out.old at (word_bytes (answerWord place answer)))
+    ensures { (result ≡ at + length (word_bytes (answer_word place answer)))
+        × (out.new ≡ put out.old at (word_bytes (answer_word place answer)))
         × (result ≤ at + 29) }
 {
     let i = put_one(out, at, b"answer", place);
