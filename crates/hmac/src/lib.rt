@@ -32,6 +32,7 @@ fn fill(key: &[u8]) -> [u8; 64]
 }
 
 // The key as a block: a longer one is digested first.
+#[tactic(auto, unfolding(crate::specs::Hmac::block_key))]
 fn block_key(key: &[u8]) -> [u8; 64]
     requires { length key.now ≤ 65535 }
     ensures { result ≡ block_key key.now }
@@ -90,6 +91,7 @@ pub fn tag_of(key: &[u8], m: &[u8]) -> [u8; 32]
 }
 
 // The tag of any input under any key: written to `out`, or refused (9) with `out` as it was.
+#[tactic(auto, unfolding(crate::specs::Hmac::tag_out))]
 pub fn tag(key: &[u8], input: &[u8], out: &mut [u8; 32]) -> Tagged
     ensures { (tagged_no result ≡ tag_no key.now input.now) × (out.new ≡ tag_out key.now input.now out.old) }
 {

@@ -84,6 +84,7 @@ pub fn digest_from(s: State, m: &[u8]) -> [u8; 32]
 }
 
 // The digest of any input: written to `out`, or refused (9) with `out` as it was.
+#[tactic(auto, unfolding(crate::specs::Sha256::digest_out))]
 pub fn digest(input: &[u8], out: &mut [u8; 32]) -> Digested
     ensures { (digested_no result ≡ digest_no input.now) × (out.new ≡ digest_out input.now out.old) }
 {

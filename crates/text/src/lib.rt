@@ -6,6 +6,7 @@ ghost use Rattle.slices.specs.Bytes.{put};
 ghost use Rattle.text.specs.Text.{place_of, number_of, decimal_of};
 
 // The place of the first `x` from `from` on: the length where there is none, `from` where that is past the end.
+#[tactic(auto, using(crate::proofs::Laws::place_steps))]
 pub fn find(s: &[u8], from: usize, x: u8) -> usize
     ensures { result ≡ from + place_of x (drop from s.now) }
 {
@@ -29,6 +30,7 @@ fn longer(v: u32, digit: u8, cap: u32) -> u32
 }
 
 // The number that the bytes spell, held at `cap`; `cap` for what is no number.
+#[tactic(auto, using(crate::proofs::Laws::number_steps))]
 pub fn number(s: &[u8], cap: u32) -> u32
     ensures { result ≡ number_of cap s.now }
 {
@@ -59,6 +61,7 @@ pub fn magnitude(z: i16) -> u32
 }
 
 // Writes a number into `out` from `at` on, and answers the place after it.
+#[tactic(auto, using(crate::proofs::Laws::digit_steps))]
 pub fn decimal(out: &mut [u8], at: usize, n: u64) -> usize
     requires { at + length (decimal_of n) ≤ length out.old }
     ensures { (result ≡ at + length (decimal_of n)) × (out.new ≡ put out.old at (decimal_of n)) }

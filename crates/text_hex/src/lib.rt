@@ -6,6 +6,7 @@ ghost use Rattle.std.proofs.Math.Seq.{paste};
 ghost use Rattle.slices.specs.Bytes.{put};
 ghost use Rattle.text_hex.specs.Hex.{hex_digit, hex_value, hex_of, unhex_of};
 
+#[tactic(auto, unfolding(crate::specs::Hex::hex_digit))]
 fn hex_digit(d: u8) -> u8
     requires { d < 16 }
     ensures { result ≡ hex_digit d }
@@ -13,6 +14,7 @@ fn hex_digit(d: u8) -> u8
     if d <= 9 { 48 + d } else { 87 + d }
 }
 
+#[tactic(auto, unfolding(crate::specs::Hex::hex_value))]
 fn hex_value(c: u8) -> u8
     ensures { result ≡ hex_value c }
 {
