@@ -1,6 +1,7 @@
 -- how many words beyond the first 16 are there after n eights of rounds: eight for each, but 48 at the most
 use mathlib.Core.Path.{◌≡◌, refl, ap, ◌∙◌}
-use Prim.Native.Nat.{◌+◌, ◌*◌, ◌-◌, min}
+use mathlib.Core.List.{List}
+use Prim.Native.Nat.{ℕ, ◌<◌, ◌≤◌, ◌+◌, ◌*◌, ◌-◌, min}
 use native.Mathlib.Omega.{arith}
 use lib.ListN.{length, take, length-take}
 use Rattle.sha256_block.specs.Block.{schedule, rounds}
@@ -8,7 +9,23 @@ use Rattle.sha256_block.specs.Inner.{add_words}
 use Rattle.sha256_block.proofs.Schedule.{length_words, add_words_lem}
 use Rattle.sha256_compress.proofs.Rounds.{part_rounds}
 use Rattle.sha256_compress.proofs.all_rounds.Goals as goal
-use Rattle.sha256_compress.proofs.all_rounds.Goals.{then-n-lt6, else-n-lt6}
+
+-- eight words more, while the schedule has fewer than 48
+made : (n : ℕ) (w v b : List ℕ) → n < 6 → v ≡ add_words 8 (16 + 8 * n) w → length w ≡ 64
+    → take (16 + min (8 * n) 48) w ≡ schedule (min (8 * n) 48) b
+    → take (16 + min (8 * (n + 1)) 48) v ≡ schedule (min (8 * (n + 1)) 48) b
+made n w v b h e k i =
+    let g : min (8 * n) 48 ≡ 8 * n = omega arith in
+    let f : min (8 * (n + 1)) 48 ≡ 8 * n + 8 = omega arith in
+    rw (f, e) (add_words_lem 8 (8 * n) w b (omega (arith, h, k)) (rw g at i))
+
+-- all 48 are there
+kept : (n : ℕ) (w v b : List ℕ) → 6 ≤ n → v ≡ w → take (16 + min (8 * n) 48) w ≡ schedule (min (8 * n) 48) b
+    → take (16 + min (8 * (n + 1)) 48) v ≡ schedule (min (8 * (n + 1)) 48) b
+kept n w v b h e i =
+    let g : min (8 * n) 48 ≡ 48 = omega arith in
+    let f : min (8 * (n + 1)) 48 ≡ 48 = omega arith in
+    rw (f, e) (rw g at i)
 
 pub loop-n-init : goal.loop-n-init
 unfolding schedule rounds
@@ -23,22 +40,7 @@ loop-n-preserved c =
     let f : 8 * (l.n + 1) ≡ 8 * l.n + 8 = omega arith in
     let q = c.eight-q.ensures ∙ part_rounds b z (min (8 * l.n) 48) 48 8 (8 * l.n) l.w a.s l.q (omega arith) l.invariant.2 (omega arith) l.invariant.3 in
     let r : c.eight-q.result ≡ rounds (8 * (l.n + 1)) (schedule 48 b) a.s = rw f q in
-    elim c.if-n-lt6.branch [
-      | then-n-lt6 x ↦
-          let g : min (8 * l.n) 48 ≡ 8 * l.n = omega (arith, x.if-n-lt6.true) in
-          let h : min (8 * (l.n + 1)) 48 ≡ 8 * l.n + 8 = omega (arith, x.if-n-lt6.true) in
-          let i : take (16 + 8 * l.n) l.w ≡ schedule (8 * l.n) b = rw g at l.invariant.2 in
-          let w : c.if-n-lt6.w ≡ add_words 8 (16 + 8 * l.n) l.w = x.w-is ∙ x.eight_words.ensures in (
-            omega arith,
-            rw w (length_words 8 (16 + 8 * l.n) l.w ∙ l.invariant.1),
-            rw (h, w) (add_words_lem 8 (8 * l.n) l.w b (omega (arith, x.if-n-lt6.true, l.invariant.1)) i),
-            r,
-          )
-      | else-n-lt6 x ↦
-          let g : min (8 * l.n) 48 ≡ 48 = omega (arith, x.if-n-lt6.false) in
-          let h : min (8 * (l.n + 1)) 48 ≡ 48 = omega (arith, x.if-n-lt6.false) in
-          (omega arith, ap length x.w-is ∙ l.invariant.1, rw (h, x.w-is) (rw g at l.invariant.2), r)
-    ]
+    (omega arith, grind (arith, length_words, l.invariant.1), grind (arith, made, kept, l.invariant.1, l.invariant.2), r)
 
 pub returns : goal.returns
 returns c = let e : c.loop-n.n ≡ 8 = omega arith in c.loop-n.invariant.3 ∙ rw e
