@@ -1,6 +1,6 @@
 -- "had got": when a client confirms, the authors of all that it has confirmed had got their answers in earlier calls. From `demand`, for the
 -- list cut right after that call.
-use Prim.Native.Nat.{ℕ, ◌+◌}
+use Prim.Native.Nat.{ℕ}
 use mathlib.Core.Path.{◌≡◌, refl, sym, ◌∙◌, ap, subst}
 use mathlib.Core.Logic.{◌⊎◌, inl, inr}
 use mathlib.Core.Bool.{Bool, true, cond}

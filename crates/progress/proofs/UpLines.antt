@@ -6,11 +6,10 @@ use mathlib.Core.Bool.{true, false}
 use lib.ListN.{length}
 use native.Mathlib.Omega.{arith}
 use Rattle.operation.specs.declared.Operation.{Operation}
-use Rattle.message.specs.Message.{is_invoke, is_commit}
-use Rattle.message.proofs.Laws.{commit_length_lem}
+use Rattle.message.specs.Message.{is_invoke}
 use Rattle.progress.specs.HonestRuns.{World, Line, start, Action, run_from}
 use Rattle.progress.proofs.Invariant.{Ghost, Asks, Client}
-use Rattle.progress.proofs.Heads.{asked_head, sent_head}
+use Rattle.progress.proofs.Heads.{sent_head}
 use Rattle.progress.proofs.NoHalt.{ghost}
 use Rattle.progress.proofs.Reached.{client}
 

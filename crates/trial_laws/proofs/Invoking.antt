@@ -13,7 +13,7 @@ use Rattle.replica.specs.declared.Replica.{Replica}
 use Rattle.replica.specs.Replica.{Step, zero_replica}
 use Rattle.progress.specs.HonestRuns.{World, update, put_one, written}
 use Rattle.progress.proofs.Acting.{update_same, update_other}
-use Rattle.progress.proofs.OneWay.{replies, invokes, invoke-counted, invoke_43}
+use Rattle.progress.proofs.OneWay.{invokes, invoke-counted, invoke_43}
 use Rattle.trial_core.specs.Trial.{Lent, with_refused, kept_invoke}
 use Rattle.trial_core.specs.declared.Lines.{Lines}
 use Rattle.trial_laws.specs.TrialRuns.{some_full}

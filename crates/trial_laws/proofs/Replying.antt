@@ -16,7 +16,7 @@ use Rattle.server.specs.Server.{server_step}
 use Rattle.progress.specs.HonestRuns as H
 use Rattle.progress.specs.HonestRuns.{World, act, deliver_in, deliver_head, serve_head, served, put_one, written}
 use Rattle.progress.proofs.Acting.{update_same}
-use Rattle.progress.proofs.OneWay.{replies, invokes, invoke-counted}
+use Rattle.progress.proofs.OneWay.{invokes, invoke-counted}
 use Rattle.trial_core.specs.Trial.{Lent, broadcast_count, logged, without_reply, queued_reply, kept_invoke, replied_move}
 use Rattle.trial_core.specs.declared.Lines.{Lines}
 use Rattle.trial_ways.proofs.Parts.{bool_cases}
