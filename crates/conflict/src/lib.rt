@@ -34,7 +34,8 @@ pub fn conflict(
     let b = at_most_pending(m);
     let values = cells.values;
     let temps = cells.temps;
-    if conflict_parts::count_parts(own, b, true) == 0 {
+    let no_temps = conflict_parts::count_parts(own, b, true) == 0;
+    if no_temps {
         return conflict_numbers::differs_on(values, others, a, own, b);
     }
     if conflict_parts::parts_differ(values, others, a, own, b, false) {

@@ -55,7 +55,8 @@ pub fn moved_from(e: Operation, moves: bool) -> usize
 {
     let a = e.amount as usize;
     if moves {
-        if e.kind == 1 {
+        let adds = e.kind == 1;
+        if adds {
             return 256 - a;
         }
         if e.kind == 2 {
@@ -92,7 +93,8 @@ pub fn same_span(e: Operation, u: u8) -> Span
         }
         return only;
     }
-    if e.kind == 3 {
+    let reads = e.kind == 3;
+    if reads {
         return only;
     }
     Span { lo: 0, hi: 256 }

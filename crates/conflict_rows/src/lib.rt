@@ -31,7 +31,8 @@ fn any_seen(wide: &[bool; 768], at: usize) -> bool
     if at == 0 {
         return false;
     }
-    if at == 512 {
+    let none_above = at == 512;
+    if none_above {
         return false;
     }
     conflict_marks::any_marked(wide, at)

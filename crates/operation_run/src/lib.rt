@@ -68,7 +68,8 @@ pub fn signed_of(b: u8) -> Response
     ensures { result ≡ signed b }
 {
     let z = b as i16;
-    if b < 128 { z } else { z - 256 }
+    let low = b < 128;
+    if low { z } else { z - 256 }
 }
 
 // The operation's response, where its cell holds `v` and has the temperature `t`.
@@ -131,6 +132,7 @@ pub fn response_on(e: Operation, cells: Cells) -> Response
 }
 
 // The cells after an operation with its status: an aborted one changes nothing.
+#[tactic(auto, unfolding(operation::specs::Operation::effect))]
 pub fn effect_on(success: bool, e: Operation, cells: Cells) -> Cells
     ensures { result ≡ effect «success» e cells }
 {

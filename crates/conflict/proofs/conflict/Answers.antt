@@ -5,13 +5,13 @@ use Rattle.conflict_marks.proofs.Stored.{clash}
 use Rattle.conflict.proofs.Cells.{alone_by_values, by_values, else_by_temps, clamped}
 use Rattle.conflict.proofs.conflict.Goals as goal
 
-pub returns-then-count_parts-eq0 : goal.returns-then-count_parts-eq0
-returns-then-count_parts-eq0 c =
+pub returns-then-no_temps : goal.returns-then-no_temps
+returns-then-no_temps c =
     let a = c.args in
     let x = c.at_most_pending-a in
     let y = c.at_most_pending-b in
     rw (← clamped a.others a.n x.result (search rules) x.ensures.1, ← clamped a.own a.m y.result (search rules) y.ensures.1)
-    (alone_by_values a.cells (take x.result a.others) (take y.result a.own) (sym c.count_parts.ensures.0 ∙ c.if-count_parts-eq0.true) c.differs_on.ensures)
+    (alone_by_values a.cells (take x.result a.others) (take y.result a.own) (sym c.count_parts-no_temps.ensures.0 ∙ c.if-no_temps.true) c.differs_on.ensures)
 
 pub returns-then-parts_differ : goal.returns-then-parts_differ
 returns-then-parts_differ c =

@@ -14,8 +14,8 @@ returns-then-a-v c = span_take _ _ c.if-e-eq2.true (search rules) c.if-a-v.true
 pub returns-then-e-eq2 : goal.returns-then-e-eq2
 returns-then-e-eq2 c = span_short _ _ c.if-e-eq2.true (search rules) c.if-a-v.false
 
-pub returns-then-e-eq3 : goal.returns-then-e-eq3
-returns-then-e-eq3 c = span_read _ _ c.if-e-eq3.true (search rules)
+pub returns-then-reads : goal.returns-then-reads
+returns-then-reads c = span_read _ _ c.if-reads.true (search rules)
 
 pub returns : goal.returns
-returns c = span_set _ _ c.if-e-eq1.false c.if-e-eq2.false c.if-e-eq3.false
+returns c = span_set _ _ c.if-e-eq1.false c.if-e-eq2.false c.if-reads.false

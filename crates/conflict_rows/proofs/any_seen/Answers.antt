@@ -8,10 +8,10 @@ returns-then-at-eq0 c =
     let blank = c.requires.1 in
     (λ e. absurd (clash refl e), λ (k, h, o). absurd (omega (arith, (blank.middle _ o).0, h, c.if-at-eq0.true)))
 
-pub returns-then-at-eq512 : goal.returns-then-at-eq512
-returns-then-at-eq512 c =
+pub returns-then-none_above : goal.returns-then-none_above
+returns-then-none_above c =
     let blank = c.requires.1 in
-    (λ e. absurd (clash refl e), λ (k, h, o). absurd (omega (arith, (blank.middle _ o).1, c.if-at-eq512.true)))
+    (λ e. absurd (clash refl e), λ (k, h, o). absurd (omega (arith, (blank.middle _ o).1, c.if-none_above.true)))
 
 pub returns : goal.returns
 returns c = c.any_marked.ensures
