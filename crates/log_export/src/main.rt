@@ -2,48 +2,61 @@
 // printed for a log is the contract of `meter_log_io::run`.
 #![tactic(auto)]
 
+use std::env::Env;
+use std::fs::Files;
+use std::io;
+use std::io::Write;
 use tool::Asks;
 
 // Reads the log that `name` names. Whether the next one is read.
-fn log_in(name: &[u8]) -> bool {
-    let fd = tool::open(name);
-    if fd < 0 {
-        return true;
+fn log_in<R: Files + Input + Print, E: Write>(rt: &R, errors: &mut E, name: &[u8]) -> bool {
+    match tool::open(rt, errors, name) {
+        None => true,
+        Some(opened) => {
+            let mut source = opened;
+            let done = meter_log_io::run(&mut source, &mut io::writer(rt));
+            let why = done.why;
+            let next = tool::tell(errors, name, why, done.cause);
+            tool::close(source);
+            next
+        }
     }
-    let done = meter_log_io::run(fd);
-    let why = done.why;
-    let next = tool::tell(name, why);
-    tool::close(fd);
-    next
 }
 
 // The same of argument `i`.
-fn log_at(i: usize) -> bool {
-    let mut name = io::buffer();
-    let n = os::arg(i, &mut name);
-    if os::errno() != 0 {
-        os::fail(b"log_export: a file's name");
-        return true;
+fn log_at<R: Env + Files + Input + Print, E: Write>(rt: &R, errors: &mut E, i: usize) -> bool {
+    let mut name = [0u8; 4096];
+    match rt.arg(i, &mut name) {
+        Ok(n) => log_in(rt, errors, &name[..n]),
+        Err(e) => {
+            tool::fail(
+                errors,
+                b"log_export: a file's name",
+                tool::argument_error(e),
+            );
+            true
+        }
     }
-    log_in(&name[..n])
 }
 
 // All files in order, until a write fails; standard input where none is named.
-fn logs() {
-    let count = os::arg_count();
+fn logs<R: Env + Files + Input + Print, E: Write>(rt: &R, errors: &mut E) {
+    let count = tool::arg_count(rt);
     if count < 2 {
-        log_in(b"-");
+        log_in(rt, errors, b"-");
         return;
     }
     for i in 1..count {
-        if !log_at(i) {
+        if !log_at(rt, errors, i) {
             return;
         }
     }
 }
 
-fn help() {
+fn help<R: Print, E: Write>(rt: &R, errors: &mut E) {
     tool::help(
+        &mut io::writer(rt),
+        errors,
         b"usage: log_export [FILE]...\n\
 \n\
 Reads meters' logs and prints a line for each of their lines.\n\
@@ -68,10 +81,11 @@ read; after a write that fails nothing is. There is no exit status: it is always
     );
 }
 
-fn main() {
-    match tool::asked() {
-        Asks::Help => help(),
-        Asks::Unknown(i) => tool::refuse(b"log_export", i),
-        Asks::Files => logs(),
+fn main(rt: HostRuntime) {
+    let mut errors = rt.stderr();
+    match tool::asked(&rt) {
+        Asks::Help => help(&rt, &mut errors),
+        Asks::Unknown(i) => tool::refuse(&rt, &mut errors, b"log_export", i),
+        Asks::Files => logs(&rt, &mut errors),
     }
 }

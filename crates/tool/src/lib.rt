@@ -83,6 +83,14 @@ pub fn arg_count<R: Env>(rt: &R) -> usize {
     0
 }
 
+// Why an argument was not read, as an error of the system: it is longer than a path may be (36), or there is none (22).
+pub fn argument_error(why: FillError) -> io::Error {
+    match why {
+        FillError::TooLong => io::Error::from_raw_os_error(36),
+        FillError::NotPresent => io::Error::from_raw_os_error(22),
+    }
+}
+
 // The kind of argument `i`. One longer than a path may be is a name that cannot be opened.
 fn kind_at<R: Env>(rt: &R, i: usize) -> Argument {
     let mut name = [0u8; 4096];

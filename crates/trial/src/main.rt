@@ -2,10 +2,16 @@
 // contract of `trial_io::run`; which are read, in which order, and what is told on standard error stays by reading.
 #![tactic(auto)]
 
+use std::env::Env;
+use std::fs::Files;
+use std::io;
+use std::io::Write;
 use tool::Asks;
 
-fn help() {
+fn help<R: Print, E: Write>(rt: &R, errors: &mut E) {
     tool::help(
+        &mut io::writer(rt),
+        errors,
         b"usage: trial [FILE]...\n\
 \n\
 The trial: eight clients and a server, moved by lines of input.\n\
@@ -33,47 +39,51 @@ read; after a write that fails nothing is. There is no exit status: it is always
 }
 
 // Reads one input. Answers whether the next one is read.
-fn input(name: &[u8]) -> bool {
-    let fd = tool::open(name);
-    if fd < 0 {
-        return true;
+fn input<R: Files + Input + Print, E: Write>(rt: &R, errors: &mut E, name: &[u8]) -> bool {
+    match tool::open(rt, errors, name) {
+        None => true,
+        Some(opened) => {
+            let mut source = opened;
+            let done = trial_io::run(&mut source, &mut io::writer(rt));
+            let why = done.why;
+            let next = tool::tell(errors, name, why, done.cause);
+            tool::close(source);
+            next
+        }
     }
-    let done = trial_io::run(fd);
-    let why = done.why;
-    let next = tool::tell(name, why);
-    tool::close(fd);
-    next
 }
 
 // Reads the input that argument `i` names.
-fn argument(i: usize) -> bool {
-    let mut name = io::buffer();
-    let n = os::arg(i, &mut name);
-    if os::errno() != 0 {
-        os::fail(b"argument");
-        return true;
+fn argument<R: Env + Files + Input + Print, E: Write>(rt: &R, errors: &mut E, i: usize) -> bool {
+    let mut name = [0u8; 4096];
+    match rt.arg(i, &mut name) {
+        Ok(n) => input(rt, errors, &name[..n]),
+        Err(e) => {
+            tool::fail(errors, b"argument", tool::argument_error(e));
+            true
+        }
     }
-    input(&name[..n])
 }
 
-fn files(count: usize) {
+fn files<R: Env + Files + Input + Print, E: Write>(rt: &R, errors: &mut E, count: usize) {
     let mut i = 1;
-    while i < count && argument(i) {
+    while i < count && argument(rt, errors, i) {
         i += 1;
     }
 }
 
-fn main() {
-    let asks = tool::asked();
+fn main(rt: HostRuntime) {
+    let mut errors = rt.stderr();
+    let asks = tool::asked(&rt);
     match asks {
-        Asks::Help => help(),
-        Asks::Unknown(i) => tool::refuse(b"trial", i),
+        Asks::Help => help(&rt, &mut errors),
+        Asks::Unknown(i) => tool::refuse(&rt, &mut errors, b"trial", i),
         Asks::Files => {
-            let count = os::arg_count();
+            let count = tool::arg_count(&rt);
             if count < 2 {
-                input(b"-");
+                input(&rt, &mut errors, b"-");
             } else {
-                files(count);
+                files(&rt, &mut errors, count);
             }
         }
     }

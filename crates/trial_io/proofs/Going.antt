@@ -1,4 +1,6 @@
 -- The program's loop over its reads, and what it answers. Assumes nothing.
+use Rattle.std.specs.declared.option.Option.{Option}
+use Rattle.std.specs.declared.io.Error.{Error}
 use Prim.Native.Nat.{ℕ, ◌+◌, ◌-◌, ◌%◌, ◌^◌, ◌≤◌, ◌<◌}
 use mathlib.Core.Path.{◌≡◌, refl, sym, ap, ◌∙◌}
 use mathlib.Core.Bool.{Bool, true, false, cond, ◌&&◌, true≢false}
@@ -174,7 +176,7 @@ ended≢written : (w : Why) → w ≡ W.Ended → w ≡ W.WriteFailed → ⊥
 ended≢written w e f = let z : ◌≡◌ {A = ℕ} 0 1 = cc (e, f) in omega arith
 
 -- reading stopped before the end
-pub ran-short : {q : Reading} {b : Lent} {buf : List ℕ} {w : Why} → ReadTo q b buf → w ≡ why_of q.brought q.after.sent.ok → at_end w ≡ false → Ran (record { total = q.total; sent = q.after.sent.bytes; why = w })
+pub ran-short : {q : Reading} {b : Lent} {buf : List ℕ} {w : Why} {o : Option Error} → ReadTo q b buf → w ≡ why_of q.brought q.after.sent.ok → at_end w ≡ false → Ran (record { total = q.total; sent = q.after.sent.bytes; why = w; cause = o })
 ran-short {q} {w = w} k e f =
     record {
       input = k.by.input;
@@ -190,7 +192,7 @@ ran-short {q} {w = w} k e f =
 
 -- the input ended, and its last line was answered
 pub ran-ended :
-    {q : Reading} {b : Lent} {buf x : List ℕ} {w v : Why} {n : ℕ} {t' : Trial} {b' : Lent} {buf' : List ℕ} {number' : ℕ} {s' : Sent} {held' : ℕ} →
+    {q : Reading} {b : Lent} {buf x : List ℕ} {w v : Why} {n : ℕ} {t' : Trial} {b' : Lent} {buf' : List ℕ} {number' : ℕ} {s' : Sent} {held' : ℕ} {o : Option Error} →
     ReadTo q b buf →
     w ≡ why_of q.brought q.after.sent.ok →
     at_end w ≡ true →
@@ -198,7 +200,7 @@ pub ran-ended :
     length x ≡ 65536 →
     Whole q.after.trial b x q.after.number q.after.sent n t' b' buf' number' s' held' →
     v ≡ why_of q.brought s'.ok →
-    Ran (record { total = q.total; sent = s'.bytes; why = v })
+    Ran (record { total = q.total; sent = s'.bytes; why = v; cause = o })
 ran-ended {q} {buf = buf} {w = w} {v = v} {s' = s'} k e f d l a y =
     let z : why_of q.brought q.after.sent.ok ≡ W.Ended = sym e ∙ at-end w f in
     let other = why_again q.brought q.after.sent.ok s'.ok v z (sym y) in

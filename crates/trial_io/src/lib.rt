@@ -10,21 +10,25 @@ ghost use Rattle.trial_core.specs.Sizes.{log_length, replies_length, invokes_len
 ghost use Rattle.trial_io.specs.Reached.{ReadTo, Ran, at_end};
 
 use input::Brought;
+use std::io;
+use std::io::{Read, Write};
 use tool::Why;
 use trial_buffer::After;
 
-// After the reads: what the lines left, how many bytes were read, and what the last read brought.
+// After the reads: what the lines left, how many bytes were read, what the last read brought, and the cause where it failed.
 #[derive(Clone, Copy)]
 struct Reading {
     after: After,
     total: u64,
     brought: Brought,
+    cause: Option<io::Error>,
 }
 
 // Reads an input to its end, from a fresh trial, and answers its whole lines. It stops where a write fails, and where nearly 2^64 bytes
 // were read. Each line has a byte of the input, so that numbers of lines stay below 2^64 for as many bytes.
-fn read_lines(
-    fd: i32,
+fn read_lines<R: Read, W: Write>(
+    reader: &mut R,
+    writer: &mut W,
     buf: &mut [u8],
     out: &mut [u8],
     log: &mut [u8; trial_core::LOG_LENGTH],
@@ -40,14 +44,16 @@ fn read_lines(
     let mut sent = output::none();
     let mut total: u64 = 0;
     let mut brought = Brought::Some;
+    let mut cause = None;
     let mut going = true;
     while going {
-        let got = input::read(fd, buf, held, total);
+        let got = input::read(reader, buf, held, total);
         total = got.total;
         let b = got.brought;
         brought = b;
+        cause = got.cause;
         let q = trial_buffer::whole_lines(
-            trial, number, sent, got.count, buf, out, log, replies, invokes,
+            writer, trial, number, sent, got.count, buf, out, log, replies, invokes,
         );
         let next = q.trial;
         trial = next;
@@ -66,7 +72,15 @@ fn read_lines(
         },
         total,
         brought,
+        cause,
     }
+}
+
+// 65,536 zeros.
+fn large_buffer() -> [u8; 65536]
+    ensures { 65536 ≡ length result }
+{
+    [0; 65536]
 }
 
 fn zero_log() -> [u8; trial_core::LOG_LENGTH]
@@ -87,12 +101,13 @@ fn zero_invokes() -> [u8; trial_core::INVOKES_LENGTH]
     [0; trial_core::INVOKES_LENGTH]
 }
 
-// What became of an input: how many bytes were read, how many were sent, modulo 2^64, and how that ended.
+// What became of an input: how many bytes were read, how many were sent, modulo 2^64, how that ended, and the cause where it failed.
 #[derive(Clone, Copy)]
 pub struct Done {
     pub total: u64,
     pub sent: u64,
     pub why: Why,
+    pub cause: Option<io::Error>,
 }
 
 // Whether the input was read to its end, and all of it sent so far.
@@ -107,16 +122,24 @@ fn at_end(why: Why) -> bool
     }
 }
 
-// Reads an open file to its end, from a fresh trial, and prints what its lines give; at its end, bytes after the last line feed are a line.
-pub fn run(fd: i32) -> Done
+// Reads what a reader gives to its end, from a fresh trial, and prints what its lines give; at its end, bytes after the last line feed are a line.
+pub fn run<R: Read, W: Write>(reader: &mut R, writer: &mut W) -> Done
     ensures { Ran result }
 {
-    let mut buf = io::large_buffer();
-    let mut out = io::large_buffer();
+    let mut buf = large_buffer();
+    let mut out = large_buffer();
     let mut log = zero_log();
     let mut replies = zero_replies();
     let mut invokes = zero_invokes();
-    let q = read_lines(fd, &mut buf, &mut out, &mut log, &mut replies, &mut invokes);
+    let q = read_lines(
+        reader,
+        writer,
+        &mut buf,
+        &mut out,
+        &mut log,
+        &mut replies,
+        &mut invokes,
+    );
     let total = q.total;
     let brought = q.brought;
     let after = q.after;
@@ -126,6 +149,7 @@ pub fn run(fd: i32) -> Done
         let trial = after.trial;
         let n = trial_bytes::end_line(&mut buf, after.held);
         let last = trial_buffer::whole_lines(
+            writer,
             trial,
             after.number,
             sent,
@@ -137,15 +161,18 @@ pub fn run(fd: i32) -> Done
             &mut invokes,
         );
         let all = last.sent;
+        let how = tool::ended_by(brought, all.ok);
         return Done {
             total,
             sent: all.bytes,
-            why: tool::ended_by(brought, all.ok),
+            why: how,
+            cause: tool::cause_of(how, q.cause, all.cause),
         };
     }
     Done {
         total,
         sent: sent.bytes,
         why,
+        cause: tool::cause_of(why, q.cause, sent.cause),
     }
 }
