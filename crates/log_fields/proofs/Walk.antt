@@ -11,8 +11,7 @@ use Rattle.text.proofs.Laws.{either}
 use Rattle.log_quotes.specs.declared.FieldEnd.{FieldEnd}
 use Rattle.log_quotes.specs.Quotes.{start, fields, sound, split, field_count, later_sound, EndsAt}
 use Rattle.log_quotes.proofs.Walk.{parts_last, parts_next, split-some}
-use Rattle.log_fields.specs.declared.Part.{Part}
-use Rattle.log_fields.specs.Places.{start_in, field_start, field_end, part_in, part_of, StartsAt}
+use Rattle.log_fields.specs.Places.{start_in, part_in, part_of, StartsAt}
 use Rattle.log_fields.proofs.Places.{start-cons, part_none, part_some}
 
 -- what a walk over all fields keeps: n of them lie before a

@@ -14,7 +14,7 @@ use Rattle.text.specs.Text.{place_of}
 use Rattle.text.proofs.Laws.{either, place_stop, place_go, place_end}
 use Rattle.text.proofs.Parts.{part_join}
 use Rattle.log_quotes.specs.declared.FieldEnd.{FieldEnd}
-use Rattle.log_quotes.specs.Quotes.{Quoting, start, plain, inside, closed, broken, by_mark, move, next_quoting, may_end, separates, in_first, split, fields, sound_from, sound, later, later_sound, EndsAt}
+use Rattle.log_quotes.specs.Quotes.{Quoting, start, plain, inside, closed, broken, by_mark, move, next_quoting, may_end, separates, in_first, split, fields, sound_from, later, later_sound, EndsAt}
 
 -- ---- a byte at an index
 module _ (q : Quoting) (s : List ℕ) (i : ℕ) where

@@ -14,7 +14,6 @@ use Rattle.log_number.specs.Number.{number, temperature}
 use Rattle.log_number.proofs.Laws.{number-empty, temp-empty}
 use Rattle.log_columns.specs.declared.Columns.{Columns}
 use Rattle.log_fields.proofs.Walk.{Counted, counted_none, counted_not, counted_unsound, counted-sound, counted_last, counted_next, counted_here}
-use Rattle.log_values.specs.declared.Values.{Values}
 use Rattle.log_values.specs.Values.{under, Found}
 
 -- ---- a walk that looks for field k: what g makes of it, once field k is past; 1000 before

@@ -1,4 +1,3 @@
-use Prim.Native.Nat.{◌-◌}
 use borrow.Author.Tests.{not-true, not-false}
 use Rattle.log_fields.proofs.Walk.{counted_none, counted_unsound, counted_last, counted_next}
 use Rattle.log_fields.proofs.count_in.Goals as goal

@@ -1,4 +1,3 @@
-use Prim.Native.Nat.{◌-◌}
 use Rattle.log_fields.proofs.Walk.{towards_none, towards_next, towards_absent, towards_done}
 use Rattle.log_fields.proofs.start_in.Goals as goal
 

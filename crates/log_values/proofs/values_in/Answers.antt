@@ -1,4 +1,3 @@
-use Prim.Native.Nat.{◌-◌}
 use borrow.Author.Tests.{not-true, not-false}
 use Rattle.log_values.proofs.Laws.{walked_none, walked_unsound, walked_last, walked_next}
 use Rattle.log_values.proofs.values_in.Goals as goal
