@@ -9,6 +9,7 @@ ghost use Rattle.meter_log_parts.specs.Whole.{between, Stands, Past, OneMore, Al
 
 use meter_log_told::{Log, LogStep};
 use output::Sent;
+use std::io::Write;
 
 // The program between two lines: the log, how many lines were told, and what was sent.
 #[derive(Clone, Copy)]
@@ -41,7 +42,14 @@ pub struct StateAfter {
 
 // Tells the whole lines among the bytes from `from` to `n`, and prints what they give. `tell_lines` stops where `out` has little room,
 // so it is called until it uses nothing.
-fn tell_between(start: State, from: usize, n: usize, buf: &[u8], out: &mut [u8]) -> Passed
+fn tell_between<W: Write>(
+    writer: &mut W,
+    start: State,
+    from: usize,
+    n: usize,
+    buf: &[u8],
+    out: &mut [u8],
+) -> Passed
     requires { (from ≤ n) × (n ≤ length buf.now) × (64 ≤ length out.old) × (start.number + n < 2 ^ 64 + from) }
     ensures { Past start (between buf.now from n) (between buf.now result.at n) result.state × (from ≤ result.at) × (result.at ≤ n) }
 {
@@ -57,7 +65,7 @@ fn tell_between(start: State, from: usize, n: usize, buf: &[u8], out: &mut [u8])
         number += q.count;
         used = q.used;
         at += used;
-        let s = output::send(out, q.filled, sent);
+        let s = output::send(writer, out, q.filled, sent);
         sent = s;
     }
     let state = State { log, number, sent };
@@ -83,20 +91,27 @@ fn hold_rest(buf: &mut [u8], at: usize, n: usize) -> Kept
 }
 
 // The bytes from `from` to `n` came.
-fn tell_from(start: State, from: usize, n: usize, buf: &mut [u8], out: &mut [u8]) -> StateAfter
+fn tell_from<W: Write>(
+    writer: &mut W,
+    start: State,
+    from: usize,
+    n: usize,
+    buf: &mut [u8],
+    out: &mut [u8],
+) -> StateAfter
     requires { (from ≤ n) × (n ≤ length buf.old) × (length buf.old ≡ line_limit + 1) × (64 ≤ length out.old) × (start.number + n < 2 ^ 64 + from) }
     ensures { AllTold start (between buf.old from n) result.state result.kept buf.new
         × (result.kept.held < length buf.new)
         × (result.kept.over ≡ true → result.kept.held ≡ 0) }
 {
-    let q = tell_between(start, from, n, buf, out);
+    let q = tell_between(writer, start, from, n, buf, out);
     let after = q.state;
     let kept = hold_rest(buf, q.at, n);
     StateAfter { state: after, kept }
 }
 
 // Prints what is told of the next line.
-fn tell_one(state: State, step: LogStep, out: &mut [u8]) -> State
+fn tell_one<W: Write>(writer: &mut W, state: State, step: LogStep, out: &mut [u8]) -> State
     requires { (64 ≤ length out.old) × (state.number + 1 < 2 ^ 64) }
     ensures { OneMore state step result out.new }
 {
@@ -104,12 +119,18 @@ fn tell_one(state: State, step: LogStep, out: &mut [u8]) -> State
     let told = step.told;
     let number = state.number + 1;
     let k = meter_log_put::put_told(out, 0, number, told);
-    let sent = output::send(out, k, state.sent);
+    let sent = output::send(writer, out, k, state.sent);
     State { log, number, sent }
 }
 
 // The first `n` bytes of the buffer came in the midst of an over_long line.
-fn tell_over(state: State, n: usize, buf: &mut [u8], out: &mut [u8]) -> StateAfter
+fn tell_over<W: Write>(
+    writer: &mut W,
+    state: State,
+    n: usize,
+    buf: &mut [u8],
+    out: &mut [u8],
+) -> StateAfter
     requires { (n ≤ length buf.old) × (length buf.old ≡ line_limit + 1) × (64 ≤ length out.old) × (state.number + n < 2 ^ 64) }
     ensures { Came state true [] (between buf.old 0 n) result.state result.kept buf.new }
 {
@@ -125,23 +146,36 @@ fn tell_over(state: State, n: usize, buf: &mut [u8], out: &mut [u8]) -> StateAft
     }
     let log = state.log;
     let step = meter_log_told::tell_long(log);
-    let next = tell_one(state, step, out);
-    tell_from(next, e + 1, n, buf, out)
+    let next = tell_one(writer, state, step, out);
+    tell_from(writer, next, e + 1, n, buf, out)
 }
 
 // After a line under way, for which what is kept stands, the bytes up to `n` came.
-pub fn more(state: State, kept: Kept, n: usize, buf: &mut [u8], out: &mut [u8]) -> StateAfter
+pub fn more<W: Write>(
+    writer: &mut W,
+    state: State,
+    kept: Kept,
+    n: usize,
+    buf: &mut [u8],
+    out: &mut [u8],
+) -> StateAfter
     requires { (kept.held ≤ n) × (kept.over ≡ true → kept.held ≡ 0) × (n ≤ length buf.old) × (length buf.old ≡ line_limit + 1) × (64 ≤ length out.old) × (state.number + n < 2 ^ 64) }
     ensures { Came state kept.over (take kept.held buf.old) (between buf.old kept.held n) result.state result.kept buf.new }
 {
     if kept.over {
-        return tell_over(state, n, buf, out);
+        return tell_over(writer, state, n, buf, out);
     }
-    tell_from(state, 0, n, buf, out)
+    tell_from(writer, state, 0, n, buf, out)
 }
 
 // Tells the last line, where there is one: bytes that no line feed ends. Answers what was sent then.
-pub fn tell_end(state: State, kept: Kept, buf: &[u8], out: &mut [u8]) -> Sent
+pub fn tell_end<W: Write>(
+    writer: &mut W,
+    state: State,
+    kept: Kept,
+    buf: &[u8],
+    out: &mut [u8],
+) -> Sent
     requires { (kept.held ≤ length buf.now) × (64 ≤ length out.old) × (state.number + 1 < 2 ^ 64) }
     ensures { LastTold state kept.over (take kept.held buf.now) result }
 {
@@ -149,13 +183,13 @@ pub fn tell_end(state: State, kept: Kept, buf: &[u8], out: &mut [u8]) -> Sent
     let held = kept.held;
     if kept.over {
         let long = meter_log_told::tell_long(log);
-        let p = tell_one(state, long, out);
+        let p = tell_one(writer, state, long, out);
         return p.sent;
     }
     if held == 0 {
         return state.sent;
     }
     let last = meter_log_told::tell_last(log, &buf[0..held]);
-    let q = tell_one(state, last, out);
+    let q = tell_one(writer, state, last, out);
     q.sent
 }
