@@ -1,4 +1,6 @@
 -- The input in parts: what was told and sent of all that came, however it was cut into reads. Assumes nothing.
+use Rattle.std.specs.declared.option.Option.{Option}
+use Rattle.std.specs.declared.io.Error.{Error}
 use Prim.Native.Nat.{ℕ, ◌+◌, ◌-◌, ◌<◌, ◌≤◌, ◌^◌}
 use mathlib.Core.Path.{◌≡◌, refl, sym, ap, ◌∙◌}
 use mathlib.Core.List.{List, [], ◌∷◌, ◌++◌, append_assoc}
@@ -107,7 +109,7 @@ pub reached_next :
 reached_next {buf₁ = buf₁} {g = g} r l i c = reached_more buf₁ g.count r i.kept i.behind (omega (arith, i.within, l)) i.counted c
 
 pub stopped :
-    {w : State} {k : Kept} {buf buf₁ : List ℕ} {total : ℕ} {g : Input} {w' : State} {k' : Kept} {buf' : List ℕ} {r : Bool} →
+    {w : State} {k : Kept} {buf buf₁ : List ℕ} {total : ℕ} {g : Input} {w' : State} {k' : Kept} {buf' : List ℕ} {r : Bool} {o : Option Error} →
     Reached w k buf total →
     total + 1 < 2 ^ 64 →
     length buf ≡ 65536 →
@@ -116,7 +118,7 @@ pub stopped :
     Came w k.over (take k.held buf₁) (between buf₁ k.held g.count) w' k' buf' →
     r ≡ (goes_on g.brought && w'.sent.ok) →
     not r ≡ true →
-    Stopped (record { state = w'; kept = k'; total = g.total; brought = g.brought }) buf'
+    Stopped (record { state = w'; kept = k'; total = g.total; brought = g.brought; cause = o }) buf'
 stopped {g = g} {w' = w'} q m z l i c e h =
     record {
       reached = reached_next q l i c;

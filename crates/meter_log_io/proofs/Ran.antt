@@ -1,4 +1,7 @@
 -- What the program's function promises of all its reads together. Assumes nothing.
+use Rattle.meter_log_told.specs.Told.{tell_whole}
+use Rattle.std.specs.declared.option.Option.{Option}
+use Rattle.std.specs.declared.io.Error.{Error}
 use Prim.Native.Nat.{ℕ, ◌+◌, ◌%◌, ◌^◌}
 use mathlib.Core.Path.{◌≡◌, refl, sym, ap, subst, ◌∙◌}
 use mathlib.Core.List.{List, [], ◌∷◌, ◌++◌, append-nil}
@@ -13,7 +16,7 @@ use Rattle.input.specs.Reads.{goes_on}
 use Rattle.output.specs.declared.Sent.{Sent}
 use Rattle.output.specs.Sends.{Sends}
 use Rattle.output.proofs.Laws.{sends-join}
-use Rattle.meter_log_lines.specs.Lines.{Run, run_whole}
+use Rattle.meter_log_lines.specs.Lines.{Run, run_whole, advance}
 use Rattle.meter_log_lines.specs.Printed.{run_last, run_input, at_start, printed_of, fed, printed_whole}
 use Rattle.meter_log_parts.specs.declared.State.{State}
 use Rattle.meter_log_io.specs.declared.InputTold.{InputTold}
@@ -71,7 +74,7 @@ all_last : (w : Run) (ps : List (List ℕ)) (p : List ℕ) → run_input w (ps +
 unfolding run_input run_whole
 all_last w [] p = refl
 all_last w (q ∷ []) p = refl
-all_last w (q ∷ r ∷ ps) p = all_last _ (r ∷ ps) p
+all_last w (q ∷ r ∷ ps) p = all_last (advance w (tell_whole w.log q)) (r ∷ ps) p
 
 last_behind : (w : State) (p printed : List ℕ) → printed ++ (run_last (run_at w []) p).printed ≡ (run_last (run_at w printed) p).printed
 unfolding run_last
@@ -126,7 +129,7 @@ module _
   no_more : sent.ok ≡ true → (q.brought ≡ B.Ended → ⊥) → goes_on q.brought ≡ false
   no_more o n = s.last (sym (ap (λ (x : Sent). x.ok) (f.not_yet n)) ∙ o)
 
-  pub ran : Ran (record { total = q.total; sent = sent.bytes; why = why })
+  pub ran : {o : Option Error} → Ran (record { total = q.total; sent = sent.bytes; why = why; cause = o })
   ran =
       let r = s.reached in
       let b = q.brought in
