@@ -1,6 +1,5 @@
-use mathlib.Core.Path.{ap, ◌∙◌}
 use borrow.Author.Tests.{lt-ltb, le-ltb}
-use Rattle.meter_log_told.specs.Told.{tell_line, tell_whole}
+use Rattle.meter_log_told.specs.Told.{tell_whole}
 use Rattle.meter_log_told.proofs.tell_whole.Goals as goal
 
 pub returns-then-s-gt-LINE_LIMIT : goal.returns-then-s-gt-LINE_LIMIT
@@ -9,4 +8,4 @@ returns-then-s-gt-LINE_LIMIT c = rw (lt-ltb _ _ c.if-s-gt-LINE_LIMIT.true) c.tel
 
 pub returns : goal.returns
 unfolding tell_whole
-returns c = rw (le-ltb _ _ c.if-s-gt-LINE_LIMIT.false) (c.tell_line.ensures ∙ ap (tell_line _) c.less_return.ensures)
+returns c = rw (le-ltb _ _ c.if-s-gt-LINE_LIMIT.false) (cc)
