@@ -29,7 +29,8 @@ pub fn invoke(
     let s = t.server;
     let l = t.lines;
     let next = l.next;
-    if trial_room::full(next, s.passed) {
+    let full = trial_room::full(next, s.passed);
+    if full {
         Result {
             trial: t,
             van,

@@ -20,10 +20,10 @@ pub returns-then-full : goal.returns-then-full
 returns-then-full c =
     let a = c.args in
     λ log.
-    line-full a.t a.van c.requires.0 (lent_of log a.replies.now a.invokes.now) a.kind a.cell a.amount (sym c.full.ensures ∙ c.if-full.true)
+    line-full a.t a.van c.requires.0 (lent_of log a.replies.now a.invokes.now) a.kind a.cell a.amount (sym c.full-full.ensures ∙ c.if-full.true)
 
 pub returns-else-full : goal.returns-else-full
 returns-else-full c =
     let a = c.args in
     λ log.
-    line-invoke a.t a.van c.requires.0 (lent_of log a.replies.now a.invokes.now) a.kind a.cell a.amount (sym c.full.ensures ∙ c.if-full.false) c.replica_at-r.ensures (c.invoke-m.ensures log) c.stored-trial.ensures
+    line-invoke a.t a.van c.requires.0 (lent_of log a.replies.now a.invokes.now) a.kind a.cell a.amount (sym c.full-full.ensures ∙ c.if-full.false) c.replica_at-r.ensures (c.invoke-m.ensures log) c.stored-trial.ensures
