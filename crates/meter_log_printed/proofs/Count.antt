@@ -92,6 +92,7 @@ told_ended n d =
 -- ---- pieces counted
 count_on : (c : ℕ) (ps : List (List ℕ)) → Some ps → length (on_first c ps) ≡ length ps
 unfolding on_first
+count_on c [] x = elim x [ ]
 count_on c (p ∷ ps) some = refl
 
 count-append : (s t : List ℕ) → length (cut 10 (s ++ t)) + 1 ≡ length (cut 10 s) + length (cut 10 t)
