@@ -31,9 +31,8 @@ Made by `tests/claims.py` from [CLAIMS.md](CLAIMS.md), `docs/edits.txt` and the 
 changed by hand.
 
 An edit is a wrong program: `crates/CRATE/must-fail/NAME.edit` says which line becomes which. The gate applies each by
-itself, and the prover has to refuse it. What it changes: the program; the *contract*, where the proof is a walk by hand
-along the program's steps or the function only calls another, so that another program would be another proof; the
-*definition* that program or theorem is held to; or a theorem's *statement*. Of the last two the end of this page says
+itself, and the prover has to refuse it. What it changes: the program; the *contract*, where the function only calls
+another and has nothing else to change; the *definition* that program or theorem is held to; or a theorem's *statement*. Of the last two the end of this page says
 why each makes something false that was proved.
 """
 
