@@ -22,7 +22,7 @@ CLAIMS = ROOT / "docs" / "CLAIMS.md"
 LIST = ROOT / "docs" / "edits.txt"
 MADE = ROOT / "docs" / "EDITS.md"
 # What a name of the definitions is made of.
-NAME = r"[\w′·-]"
+NAME = r"[\w'-]"
 TOP = ("tests/", "bench/", "include/", "examples/", "docs/")
 
 HEAD = """# Edits
@@ -32,8 +32,8 @@ changed by hand.
 
 An edit is a wrong program: `crates/CRATE/must-fail/NAME.edit` says which line becomes which. The gate applies each by
 itself, and the prover has to refuse it. What it changes: the program; the *contract*, where the function only calls
-another and has nothing else to change; the *definition* that program or theorem is held to; or a theorem's *statement*. Of the last two the end of this page says
-why each makes something false that was proved.
+another and has nothing else to change; the *definition* that program or theorem is held to; or a theorem's *statement*.
+Of the last two the end of this page says why each makes something false that was proved.
 """
 
 
