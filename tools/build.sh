@@ -7,10 +7,14 @@ name=$1
 crate=$name
 if [ -d "crates/${name}_c" ]; then crate=${name}_c; fi
 mkdir -p target/staticlib target/bin
+# What an earlier build left is not taken for this one's.
+rm -f "target/staticlib/lib$name.a" "target/bin/$name"
 if [ -f "crates/$crate/src/main.rt" ]; then
-    (cd "crates/$crate" && rt run < /dev/null > out.txt 2>&1) || { cat "crates/$crate/out.txt"; rm -f "crates/$crate/out.txt"; exit 1; }
-    rm -f "crates/$crate/out.txt"
+    said=$(mktemp)
+    trap 'rm -f "$said"' EXIT
+    (cd "crates/$crate" && rt run < /dev/null) > "$said" 2>&1 || { cat "$said"; exit 1; }
     cp "crates/$crate/out/$crate" "target/bin/$name"
+    echo "target/bin/$name"
 else
     (cd "crates/$crate" && rt lib)
     cp "crates/$crate/out/lib$crate.a" "target/staticlib/lib$name.a"

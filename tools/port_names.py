@@ -1,7 +1,7 @@
 #!/usr/bin/env python3
 """Brings the repository's own definitions and lemmas to today's spelling: words in snake case, a dash between two names only.
 
-usage: python3 tools/port_names.py        once, at the top, after /opt/rattle/port/port.py
+usage: python3 tools/port_names.py        once, at the top of a tree of the older spelling, after /opt/rattle/port/port.py
 
 The names are in port_names.txt, old and new. Names of src/, strings and data are none of them.
 """
@@ -34,6 +34,8 @@ def turned(text, dots, lemmas):
 
 
 def main():
+    if os.path.exists(os.path.join("docs", "PORT.md")):
+        raise SystemExit("port_names: it has run here already, and is not to be run twice")
     for folder, folders, files in os.walk("crates"):
         folders[:] = sorted(f for f in folders if f not in ("out", "must-fail", "data"))
         for name in sorted(files):

@@ -53,15 +53,16 @@ ended_not_limit e = let z : ◌≡◌ {A = ℕ} 0 1 = cc e in omega arith
 
 -- a byte at the least came, and not more than there was room for
 pub bytes :
-    (s t : List ℕ) (held total n : ℕ) (c : Option Error) →
+    (s x : List ℕ) (held total n : ℕ) (c : Option Error) →
     0 < n →
     held + n ≤ length s →
     total + length s < 2 ^ 64 - 1 →
-    Reads s (take held s ++ t) held total (record { count = held + n; total = total + n; brought = B.Some; cause = c })
+    take held x ≡ take held s →
+    Reads s x held total (record { count = held + n; total = total + n; brought = B.Some; cause = c })
 unfolding goes_on
-bytes s t held total n c g w l =
+bytes s x held total n c g w l k =
     record {
-      kept = stays s t held (omega arith);
+      kept = k;
       behind = omega arith;
       within = w;
       some = λ _. omega arith;
@@ -70,3 +71,12 @@ bytes s t held total n c g w l =
       below = λ _. omega arith;
       limit = λ e. absurd (let z : ◌≡◌ {A = ℕ} 0 1 = cc e in omega arith);
     }
+
+-- the same of bytes t written from place `held` on
+pub bytes_over :
+    (s t : List ℕ) (held total n : ℕ) (c : Option Error) →
+    0 < n →
+    held + n ≤ length s →
+    total + length s < 2 ^ 64 - 1 →
+    Reads s (take held s ++ t) held total (record { count = held + n; total = total + n; brought = B.Some; cause = c })
+bytes_over s t held total n c g w l = bytes s _ held total n c g w l (stays s t held (omega arith))

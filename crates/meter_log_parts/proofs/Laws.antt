@@ -133,12 +133,12 @@ pub whole :
     AllTold w t w' k buf'
 whole {u = u} p a = record { rest = u; past = p; kept = a }
 
--- ---- an over_long line goes on
+-- ---- an over-long line goes on
 long-whole : (g : Log) (p : List ℕ) → line_limit < length p → tell_whole g p ≡ tell_long g
 unfolding tell_whole
 long-whole g p h = rw (lt-ltb line_limit (length p) h)
 
--- what is printed for an over_long line
+-- what is printed for an over-long line
 abbrev long_bytes : State → List ℕ
 long_bytes w = told_bytes (w.number + 1) (tell_long w.log).told
 

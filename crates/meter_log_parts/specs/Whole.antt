@@ -18,7 +18,7 @@ use Rattle.meter_log_parts.specs.declared.Kept.{Kept}
 abbrev pub between : List ℕ → ℕ → ℕ → List ℕ
 between s from n = take (n - from) (drop from s)
 
--- what is held stands for the bytes p of a line under way: it is these, or they are over_long and nothing is held
+-- what is held stands for the bytes p of a line under way: it is these, or they are over-long and nothing is held
 pub data Stands : Bool → List ℕ → List ℕ → Type 0 where
   all : {s p : List ℕ} → s ≡ p → length p ≤ line_limit → Stands false s p
   over : {s p : List ℕ} → s ≡ [] → line_limit < length p → Stands true s p

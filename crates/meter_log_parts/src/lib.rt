@@ -26,7 +26,7 @@ struct Passed {
     at: usize,
 }
 
-// What is held of a line that is not yet whole: whether it is over_long, and how many of its bytes stand in the front of the buffer.
+// What is held of a line that is not yet whole: whether it is over-long, and how many of its bytes stand in the front of the buffer.
 #[derive(Clone, Copy)]
 pub struct Kept {
     pub over: bool,
@@ -123,7 +123,7 @@ fn tell_one<W: Write>(writer: &mut W, state: State, step: LogStep, out: &mut [u8
     State { log, number, sent }
 }
 
-// The first `n` bytes of the buffer came in the midst of an over_long line.
+// The first `n` bytes of the buffer came in the midst of an over-long line.
 fn tell_over<W: Write>(
     writer: &mut W,
     state: State,

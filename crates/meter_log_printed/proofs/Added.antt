@@ -33,7 +33,7 @@ module _ (k : ℕ) {fs : ℕ → List ℕ} (c : Column fs) where
 pub log_same : (k : ℕ) (fs : ℕ → List ℕ) → Column fs → (t : List ℕ) → log_text (add_text k fs t) ≡ log_text t
 log_same k fs c t = text_added k c (lines_added k c t)
 
--- and so the program prints the same, for every text, where neither has an over_long line
+-- and so the program prints the same, for every text, where neither has an over-long line
 pub printed_same :
     (k : ℕ) (fs : ℕ → List ℕ) →
     Column fs →

@@ -127,7 +127,7 @@ count_none : length (cut 10 []) ≡ 1
 unfolding cut
 count_none = refl
 
--- for every text, over_long lines and all, what is printed has as many line feeds as the text has lines: one more piece than that
+-- for every text, over-long lines and all, what is printed has as many line feeds as the text has lines: one more piece than that
 pub printed-lines : (t : List ℕ) → length (cut 10 (printed_of t)) ≡ suc (length (lines t))
 unfolding printed_of
 printed-lines t = omega (arith, count_run (run_of L.Start 0 []) (cut 10 t), count_none)

@@ -1,4 +1,4 @@
--- What the program prints for over_long lines. Assumes nothing.
+-- What the program prints for over-long lines. Assumes nothing.
 use Prim.Native.Nat.{ℕ, ◌+◌, ◌<◌}
 use mathlib.Core.Path.{◌≡◌, refl, sym, ap, ◌∙◌}
 use mathlib.Core.List.{List, [], ◌∷◌, ◌++◌, append-nil, append_assoc}
@@ -19,7 +19,7 @@ use Rattle.meter_log_put.specs.Text.{told_bytes}
 use Rattle.meter_log_lines.specs.Printed.{run_input, printed_of}
 use Rattle.meter_log_printed.proofs.Runs.{run_of, printed, whole_run, last_run, none_run}
 
--- ---- an over_long line
+-- ---- an over-long line
 -- with its line feed or without, no byte of it matters
 module _ (g : Log) (p : List ℕ) (e : is_long p ≡ true) where
   pub long-whole : tell_whole g p ≡ tell_long g
@@ -36,7 +36,7 @@ long_is L.Start = refl
 long_is (L.Under h) = refl
 long_is L.Long = refl
 
--- an over_long line is told as such wherever it stands
+-- an over-long line is told as such wherever it stands
 pub long_told : (g : Log) (p : List ℕ) → is_long p ≡ true → ((tell_whole g p).told ≡ T.Long) × ((tell_last g p).told ≡ T.Long)
 long_told g p e = (rw (long-whole g p e) (long_is g), rw (long_last g p e) (long_is g))
 
@@ -48,11 +48,11 @@ long-later h p e = (rw (long-whole (L.Under h) p e), rw (long_last (L.Under h) p
 none_long_lem : is_long [] ≡ true → ⊥
 none_long_lem e = let z : line_limit < 0 = ltb-true _ _ e in omega arith
 
--- ---- under an over_long first line
+-- ---- under an over-long first line
 abbrev long : LogStep
 long = record { log = L.Long; told = T.Long }
 
--- every line is told as an over_long one
+-- every line is told as an over-long one
 whole-under : (p : List ℕ) → tell_whole L.Long p ≡ long
 unfolding tell_whole tell_line tell_long
 whole-under p = either (is_long p) (λ e. rw e) (λ e. rw e)
@@ -84,7 +84,7 @@ start-long ([] ∷ []) e = absurd (none_long_lem e)
 start-long ((b ∷ l) ∷ []) e = ap printed (last_run (run_of L.Start 0 []) b l long (long_last L.Start (b ∷ l) e)) ∙ rw append-nil
 start-long (p ∷ q ∷ ps) e = ap printed (whole_run (run_of L.Start 0 []) p q ps long (long-whole L.Start p e)) ∙ under-long (q ∷ ps) 1 (told_bytes 1 T.Long)
 
--- where the first line is over_long, the program prints `long` for each line, over_long or not
+-- where the first line is over-long, the program prints `long` for each line, over-long or not
 pub long_first : (t : List ℕ) → is_long (get_or (cut 10 t) 0 []) ≡ true → printed_of t ≡ long_text 0 (lines t)
 unfolding printed_of
 long_first t e = start-long (cut 10 t) e

@@ -1,4 +1,4 @@
--- What the program prints for a log without over_long lines, by the log's readings. Assumes nothing.
+-- What the program prints for a log without over-long lines, by the log's readings. Assumes nothing.
 use Prim.Native.Nat.{ℕ, ◌+◌}
 use mathlib.Core.Path.{◌≡◌, refl, sym, ap, ◌∙◌}
 use mathlib.Core.List.{List, [], ◌∷◌, ◌++◌, append-nil, append_assoc}
@@ -27,7 +27,7 @@ module _ (p : List ℕ) (ps : List (List ℕ)) (n : none_long (p ∷ ps) ≡ tru
   unfolding none_long
   short_rest = (and_yes (not (is_long p)) (none_long ps) n).1
 
--- ---- a line that is not over_long is told as the line that it is
+-- ---- a line that is not over-long is told as the line that it is
 module _ (g : Log) (p : List ℕ) (e : is_long p ≡ false) where
   whole-line : tell_whole g p ≡ tell_line g (less_return p)
   unfolding tell_whole
@@ -65,7 +65,7 @@ start_read (p ∷ q ∷ ps) n =
     ap printed (whole_run (run_of L.Start 0 []) p q ps (tell_line L.Start (less_return p)) (whole-line L.Start p (short_first p (q ∷ ps) n)))
     ∙ under_read i (q ∷ ps) 1 (told_bytes 1 (tell_header i)) (short_rest p (q ∷ ps) n)
 
--- for a text with no over_long line, the program prints a line for the first line and one for each reading of the later ones
+-- for a text with no over-long line, the program prints a line for the first line and one for each reading of the later ones
 pub printed_read : (t : List ℕ) → short t ≡ true → printed_of t ≡ log_text t
 unfolding printed_of
 printed_read t n = start_read (cut 10 t) n

@@ -8,7 +8,7 @@ use Rattle.meter_log.specs.Log.{read_all}
 use Rattle.meter_log_told.specs.Told.{tell_header, tell_reading, is_long}
 use Rattle.meter_log_put.specs.Text.{told_bytes}
 
--- no line is over_long
+-- no line is over-long
 unfoldable pub none_long : List (List ℕ) → Bool
 none_long [] = true
 none_long (p ∷ ps) = not (is_long p) && none_long ps

@@ -1,4 +1,4 @@
--- An over_long line is of another form, so that it is answered `bad`; so is the line that is held for it. Assumes nothing.
+-- An over-long line is of another form, so that it is answered `bad`; so is the line that is held for it. Assumes nothing.
 use Prim.Native.Nat.{ℕ, ◌≤◌, ◌<◌}
 use mathlib.Core.Path.{◌≡◌, refl, sym, ◌∙◌}
 use mathlib.Core.List.{List, [], ◌∷◌, ◌++◌}
@@ -37,7 +37,7 @@ pub line-short : (l : List ℕ) → length l < 65536 → line_of l ≡ l
 unfolding line_of
 line-short l h = rw (lt-leb 65536 (length l) h)
 
--- an over_long line, whatever its bytes are
+-- an over-long line, whatever its bytes are
 pub over_long_other : (l : List ℕ) → 65536 ≤ length l → parse (line_of l) ≡ other
 over_long_other l h = rw (line-long l h) no_line
 

@@ -37,7 +37,7 @@ stands-held p =
     (λ e. rw e (inr (record { long = leb-true 65536 (length p) e; after = []; nul = refl; one = nul_one })))
     (λ e. rw e (inl refl))
 
--- and of an over_long one that goes on
+-- and of an over-long one that goes on
 over_on : (h p v : List ℕ) → Over h p → lines_of (h ++ v) ≡ (h ++ v) ∷ [] → Over (held_of 65536 (h ++ v)) (p ++ v)
 unfolding held_of
 over_on h p v o e =
@@ -68,7 +68,7 @@ next_same w p x answered rest l e =
       stands = stands-held rest;
     }
 
--- the first line is over_long: its bytes do what those held for it did
+-- the first line is over-long: its bytes do what those held for it did
 run_over : (w : Run) (l a : List ℕ) (ls ls' : List (List ℕ)) → parse l ≡ parse a → ls ≡ ls' → run_lines w (l ∷ ls) ≡ run_lines w (a ∷ ls')
 unfolding run_lines
 run_over w l a ls ls' e f = rw (e, f)

@@ -12,14 +12,14 @@ use Rattle.trial_io.specs.declared.Reading.{Reading}
 use Rattle.trial_io.specs.declared.Done.{Done}
 use Rattle.trial_io.specs.Printed.{run_of, printed_of, printed_whole}
 
--- bytes h, without a line feed, are held for an over_long line, of which bytes p have come
+-- bytes h, without a line feed, are held for an over-long line, of which bytes p have come
 pub record Over (h p : List ℕ) : Type 0 where
   pub long : 65536 ≤ length p
   pub after : List ℕ
   pub nul : h ≡ 0 ∷ after
   pub one : lines_of h ≡ h ∷ []
 
--- bytes h are held for a line of which bytes p have come: they are these, or the line is over_long and a NUL byte stands in front
+-- bytes h are held for a line of which bytes p have come: they are these, or the line is over-long and a NUL byte stands in front
 abbrev pub Stands : List ℕ → List ℕ → Type 0
 Stands h p = (h ≡ p) ⊎ Over h p
 

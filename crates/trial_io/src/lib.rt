@@ -1,6 +1,6 @@
 // The trial program of document 01: lines of an input to its end, and a line for each on standard output. Here is the loop that reads.
 // Definitions: specs/Printed.antt, what an input prints; specs/Reached.antt, all that was read. That the bytes of a line are those of its
-// word in trial_laws is the crate trial_printed; that an over_long line is of another form, proofs/OverLong.antt.
+// word in trial_laws is the crate trial_printed; that an over-long line is of another form, proofs/OverLong.antt.
 #![tactic(auto)]
 
 ghost use Rattle.std.specs.Prelude.{◌≡◌, ◌+◌, ◌≤◌, ◌<◌, ◌^◌, length, take, replicate};

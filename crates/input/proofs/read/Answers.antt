@@ -1,6 +1,6 @@
 use Rattle.std.proofs.Common.{refl, arith, rules}
 use Rattle.input.specs.Reads.{goes_on}
-use Rattle.input.proofs.Laws.{nothing, over, failed_not_limit, ended_not_limit, bytes}
+use Rattle.input.proofs.Laws.{nothing, over, failed_not_limit, ended_not_limit, bytes_over}
 use Rattle.input.proofs.read.Goals as goal
 
 pub returns-then-total-buf-clause-reads : goal.returns-then-total-buf-clause-reads
@@ -16,4 +16,4 @@ unfolding goes_on
 returns-then-n-eq0-clause-reads g c = over _ _ _ _ _ _ c.requires refl ended_not_limit
 
 pub returns-clause-reads : goal.returns-clause-reads
-returns-clause-reads g c = bytes _ _ _ _ _ _ (search rules) (search rules) (search rules)
+returns-clause-reads g c = bytes_over _ _ _ _ _ _ (search rules) (search rules) (search rules)
