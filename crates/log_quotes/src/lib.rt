@@ -60,7 +60,8 @@ fn quoted_end(s: &[u8], a: usize) -> FieldEnd
                 sound: true,
             };
         }
-        if s[c] == 44 {
+        let at_comma = s[c] == 44;
+        if at_comma {
             return FieldEnd {
                 end: c,
                 sound: true,

@@ -22,14 +22,14 @@ returns-then-c-s c = way_end (quote_closes c.loop-a.invariant c.find-q.ensures c
 pub bounds-s-c : goal.bounds-s-c
 bounds-s-c c = let k = closed-within (quote_closes c.loop-a.invariant c.find-q.ensures c.if-q-s.false) c.if-c-s.false in search rules
 
-pub returns-then-s-c-eq44 : goal.returns-then-s-c-eq44
-returns-then-s-c-eq44 c = closed_stop (quote_closes c.loop-a.invariant c.find-q.ensures c.if-q-s.false) (closed-within (quote_closes c.loop-a.invariant c.find-q.ensures c.if-q-s.false) c.if-c-s.false) c.if-s-c-eq44.true
+pub returns-then-at_comma : goal.returns-then-at_comma
+returns-then-at_comma c = closed_stop (quote_closes c.loop-a.invariant c.find-q.ensures c.if-q-s.false) (closed-within (quote_closes c.loop-a.invariant c.find-q.ensures c.if-q-s.false) c.if-c-s.false) c.if-at_comma.true
 
 pub bounds-s-c-in-loop-a : goal.bounds-s-c-in-loop-a
 bounds-s-c-in-loop-a c = let k = closed-within (quote_closes c.loop-a.invariant c.find-q.ensures c.if-q-s.false) c.if-c-s.false in search rules
 
 pub returns-then-s-c-ne34 : goal.returns-then-s-c-ne34
-returns-then-s-c-ne34 c = closed-broken (quote_closes c.loop-a.invariant c.find-q.ensures c.if-q-s.false) (closed-within (quote_closes c.loop-a.invariant c.find-q.ensures c.if-q-s.false) c.if-c-s.false) c.if-s-c-eq44.false c.if-s-c-ne34.true
+returns-then-s-c-ne34 c = closed-broken (quote_closes c.loop-a.invariant c.find-q.ensures c.if-q-s.false) (closed-within (quote_closes c.loop-a.invariant c.find-q.ensures c.if-q-s.false) c.if-c-s.false) c.if-at_comma.false c.if-s-c-ne34.true
 
 pub overflow_add-i : goal.overflow_add-i
 overflow_add-i c = let k = closed-within (quote_closes c.loop-a.invariant c.find-q.ensures c.if-q-s.false) c.if-c-s.false in search rules
