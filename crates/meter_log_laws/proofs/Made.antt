@@ -204,11 +204,6 @@ module _ (c : Columns) (l : List ℕ) (e : Operation) (q : read_columns c l ≡ 
       let t : temp_ok (temperature (under l c.temp)) ≡ true = degrees_ok _ (degrees (under l c.temp) r.high) in
       rw r.whole (record { no_count = refl; five = refl; a_byte = r.middle; passes = allowed_in _ _ _ r.low t })
 
-  columns_found : Found c l e
-  columns_found =
-      let r = columns_made c l e q in
-      rw r.whole (record { the_cell = refl; the_flow = refl; the_temp = degrees (under l c.temp) r.high })
-
 -- "Each later line becomes one kind 5 entry, its count left to making": one that making allows
 pub line-entry : (h : Header) (l : List ℕ) (e : Operation) → read_line h l ≡ R.Made e → Entry e
 unfolding read_line
@@ -218,4 +213,6 @@ line-entry (H.Named c) l e q = columns_entry c l e q
 -- "with the cell, flow and temperature found under those names"
 pub line_found : (c : Columns) (l : List ℕ) (e : Operation) → read_line (H.Named c) l ≡ R.Made e → Found c l e
 unfolding read_line
-line_found c l e q = columns_found c l e q
+line_found c l e q =
+    let r = columns_made c l e q in
+    rw r.whole (record { the_cell = refl; the_flow = refl; the_temp = degrees (under l c.temp) r.high })
