@@ -1,15 +1,7 @@
--- `slices::zero_from` meets its contract: what is gathered, and what is left of the test at i, are the whole test.
--- Assumes nothing.
-use Prim.Native.Nat.{◌+◌, ◌-◌}
-use mathlib.Core.Path.{refl, ◌∙◌, sym, ap}
-use mathlib.Core.Bool.{Bool, ◌&&◌}
-use lib.ListN.{get_or, drop}
+use Rattle.std.proofs.Common.{sym, ap, ◌∙◌, ◌+◌, Bool, ◌&&◌, get_or, drop}
 use Rattle.slices.specs.Bytes.{all, is_zero}
 use Rattle.slices.proofs.Laws.{all_more, all_done, or-zero}
 use Rattle.slices.proofs.zero_from.Goals as goal
-
-pub loop-i-init : goal.loop-i-init
-loop-i-init c = refl
 
 pub loop-i-preserved : goal.loop-i-preserved
 loop-i-preserved c =

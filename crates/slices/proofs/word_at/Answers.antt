@@ -1,7 +1,0 @@
-use Rattle.slices.specs.Bytes.{word_at}
-use borrow.Author.Rules.{rules}
-use Rattle.slices.proofs.word_at.Goals as goal
-
-pub returns : goal.returns
-unfolding word_at
-returns c = search rules
