@@ -44,6 +44,9 @@ or_assoc a =
     a
 
 -- ---- what is gathered so far, and what is left at i
+pub gather_none : (x : ℕ) → bit_or 0 x ≡ x
+gather_none = or_zero_l
+
 module _ (s t : List ℕ) (i bits : ℕ) where
   pub gather_more : i < length s → i < length t
       → bit_or bits (different_bits (drop i s) (drop i t)) ≡ bit_or (bit_or bits (bit_xor (get_or s i 0) (get_or t i 0))) (different_bits (drop (i + 1) s) (drop (i + 1) t))
