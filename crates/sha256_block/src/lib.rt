@@ -6,13 +6,15 @@ ghost use Rattle.sha256_block.specs.Block.{words_at, next_word};
 ghost use Rattle.sha256_block.specs.Inner.{add_word, add_words};
 
 // Word t of the schedule, from the words before it.
+#[tactic(auto, unfolding(crate::specs::Block::next_word))]
 fn next_word(w: &[u32; 64], t: usize) -> u32
     requires { (16 ≤ t) × (t < 64) }
     ensures { result ≡ next_word w.now t }
 {
-    let x = std::num::wrapping_add_u32(sha256_core::small1(w[t - 2]), w[t - 7]);
-    let y = std::num::wrapping_add_u32(x, sha256_core::small0(w[t - 15]));
-    std::num::wrapping_add_u32(y, w[t - 16])
+    sha256_core::small1(w[t - 2])
+        .wrapping_add(w[t - 7])
+        .wrapping_add(sha256_core::small0(w[t - 15]))
+        .wrapping_add(w[t - 16])
 }
 
 // The sixteen words of the block at `at`, in a schedule whose other words are free.
@@ -20,25 +22,23 @@ pub fn load(m: &[u8], at: usize) -> [u32; 64]
     requires { at + 64 ≤ length m.now }
     ensures { (length result ≡ 64) × (take 16 result ≡ words_at 16 m.now at) }
 {
-    let mut w = [0u32; 64];
-    let mut n: usize = 0;
-    while n < 16 {
+    let mut w = [0; 64];
+    for n in 0..16 {
         w[n] = slices::word_at(m, at + 4 * n);
-        n += 1;
     }
     w
 }
 
 // Word t of the schedule, put in its place.
+#[tactic(auto, unfolding(crate::specs::Inner::add_word))]
 fn add_word(w: &mut [u32; 64], t: usize)
     requires { (16 ≤ t) × (t < 64) }
     ensures { w.new ≡ add_word t w.old }
 {
-    let x = next_word(w, t);
-    w[t] = x;
+    w[t] = next_word(w, t);
 }
 
-// Eight words of the schedule, from word t on.
+// Eight words of the schedule, from word t on. Unrolled: the last words stay in registers (a loop costs time).
 pub fn eight_words(w: &mut [u32; 64], t: usize)
     requires { (16 ≤ t) × (t + 8 ≤ 64) }
     ensures { w.new ≡ add_words 8 t w.old }

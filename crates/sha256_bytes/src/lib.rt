@@ -7,17 +7,21 @@ ghost use Rattle.sha256_bytes.specs.Bytes.{bytes_of};
 use sha256_core::State;
 
 // The eight words as bytes.
+#[tactic(auto, unfolding(crate::specs::Bytes::bytes_of, slices::specs::Bytes::big_endian))]
 pub fn to_bytes(s: State) -> [u8; 32]
     ensures { result ≡ bytes_of s }
 {
-    let mut b = [0u8; 32];
-    slices::copy_to(&mut b, 0, &slices::word_bytes(s.a));
-    slices::copy_to(&mut b, 4, &slices::word_bytes(s.b));
-    slices::copy_to(&mut b, 8, &slices::word_bytes(s.c));
-    slices::copy_to(&mut b, 12, &slices::word_bytes(s.d));
-    slices::copy_to(&mut b, 16, &slices::word_bytes(s.e));
-    slices::copy_to(&mut b, 20, &slices::word_bytes(s.f));
-    slices::copy_to(&mut b, 24, &slices::word_bytes(s.g));
-    slices::copy_to(&mut b, 28, &slices::word_bytes(s.h));
+    let words = [
+        s.a.to_be_bytes(),
+        s.b.to_be_bytes(),
+        s.c.to_be_bytes(),
+        s.d.to_be_bytes(),
+        s.e.to_be_bytes(),
+        s.f.to_be_bytes(),
+        s.g.to_be_bytes(),
+        s.h.to_be_bytes(),
+    ];
+    let mut b = [0; 32];
+    b.copy_from_slice(words.as_flattened());
     b
 }

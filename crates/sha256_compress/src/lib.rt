@@ -8,8 +8,8 @@ ghost use Rattle.sha256_block.specs.Inner.{rounds_from};
 
 use sha256_core::State;
 
-// Eight rounds from round t on, with the constants lent.
-fn eight<'a>(k: &'a [u32; 64], w: &'a [u32; 64], t: usize, s: State) -> State
+// Eight rounds from round t on, with the constants lent. Unrolled: the eight words are renamed and not moved (a loop costs time).
+fn eight(k: &[u32; 64], w: &[u32; 64], t: usize, s: State) -> State
     requires { (t + 8 ≤ 64) × (k.now ≡ k_table) }
     ensures { result ≡ rounds_from 8 t w.now s }
 {
@@ -29,19 +29,18 @@ fn all_rounds(w: &mut [u32; 64], s: State) -> State
     ensures { result ≡ rounds 64 (schedule 48 (take 16 w.old)) s }
 {
     let k = sha256_core::table();
-    let mut n: usize = 0;
     let mut q = s;
-    while n < 8 {
+    for n in 0..8 {
         q = eight(&k, w, 8 * n, q);
         if n < 6 {
             sha256_block::eight_words(w, 16 + 8 * n);
         }
-        n += 1;
     }
     q
 }
 
 // The next hash value, from the block at `at`.
+#[tactic(auto, unfolding(sha256_block::specs::Block::compress_of))]
 pub fn compress(s: State, m: &[u8], at: usize) -> State
     requires { at + 64 ≤ length m.now }
     ensures { result ≡ compress_of s (words_at 16 m.now at) }

@@ -33,25 +33,25 @@ pub fn maj(x: u32, y: u32, z: u32) -> u32
 pub fn big0(x: u32) -> u32
     ensures { result ≡ Σ0 x }
 {
-    ((x >> 2) | (x << 30)) ^ ((x >> 13) | (x << 19)) ^ ((x >> 22) | (x << 10))
+    x.rotate_right(2) ^ x.rotate_right(13) ^ x.rotate_right(22)
 }
 
 pub fn big1(x: u32) -> u32
     ensures { result ≡ Σ1 x }
 {
-    ((x >> 6) | (x << 26)) ^ ((x >> 11) | (x << 21)) ^ ((x >> 25) | (x << 7))
+    x.rotate_right(6) ^ x.rotate_right(11) ^ x.rotate_right(25)
 }
 
 pub fn small0(x: u32) -> u32
     ensures { result ≡ σ0 x }
 {
-    ((x >> 7) | (x << 25)) ^ ((x >> 18) | (x << 14)) ^ (x >> 3)
+    x.rotate_right(7) ^ x.rotate_right(18) ^ (x >> 3)
 }
 
 pub fn small1(x: u32) -> u32
     ensures { result ≡ σ1 x }
 {
-    ((x >> 17) | (x << 15)) ^ ((x >> 19) | (x << 13)) ^ (x >> 10)
+    x.rotate_right(17) ^ x.rotate_right(19) ^ (x >> 10)
 }
 
 // The constants of the 64 rounds.
@@ -123,6 +123,7 @@ const K: [u32; 64] = [
 ];
 
 // The table, to be lent to each round.
+#[tactic(auto, unfolding(crate::specs::Round::k_table))]
 pub fn table() -> [u32; 64]
     ensures { result ≡ k_table }
 {
@@ -130,38 +131,42 @@ pub fn table() -> [u32; 64]
 }
 
 // Round t, with the constants k and the schedule w lent.
-pub fn round<'a>(k: &'a [u32; 64], w: &'a [u32; 64], t: usize, s: State) -> State
+#[tactic(auto, unfolding(crate::specs::Round::round_at, crate::specs::Round::round_of))]
+pub fn round(k: &[u32; 64], w: &[u32; 64], t: usize, s: State) -> State
     requires { (t < 64) × (k.now ≡ k_table) }
     ensures { result ≡ round_at t w.now s }
 {
-    let x = std::num::wrapping_add_u32(s.h, big1(s.e));
-    let y = std::num::wrapping_add_u32(x, ch(s.e, s.f, s.g));
-    let z = std::num::wrapping_add_u32(y, k[t]);
-    let t1 = std::num::wrapping_add_u32(z, w[t]);
-    let t2 = std::num::wrapping_add_u32(big0(s.a), maj(s.a, s.b, s.c));
+    let t1 = s
+        .h
+        .wrapping_add(big1(s.e))
+        .wrapping_add(ch(s.e, s.f, s.g))
+        .wrapping_add(k[t])
+        .wrapping_add(w[t]);
+    let t2 = big0(s.a).wrapping_add(maj(s.a, s.b, s.c));
     State {
-        a: std::num::wrapping_add_u32(t1, t2),
+        a: t1.wrapping_add(t2),
         b: s.a,
         c: s.b,
         d: s.c,
-        e: std::num::wrapping_add_u32(s.d, t1),
+        e: s.d.wrapping_add(t1),
         f: s.e,
         g: s.f,
         h: s.g,
     }
 }
 
+#[tactic(auto, unfolding(crate::specs::Round::add_state))]
 pub fn sum(s: State, t: State) -> State
     ensures { result ≡ add_state s t }
 {
     State {
-        a: std::num::wrapping_add_u32(s.a, t.a),
-        b: std::num::wrapping_add_u32(s.b, t.b),
-        c: std::num::wrapping_add_u32(s.c, t.c),
-        d: std::num::wrapping_add_u32(s.d, t.d),
-        e: std::num::wrapping_add_u32(s.e, t.e),
-        f: std::num::wrapping_add_u32(s.f, t.f),
-        g: std::num::wrapping_add_u32(s.g, t.g),
-        h: std::num::wrapping_add_u32(s.h, t.h),
+        a: s.a.wrapping_add(t.a),
+        b: s.b.wrapping_add(t.b),
+        c: s.c.wrapping_add(t.c),
+        d: s.d.wrapping_add(t.d),
+        e: s.e.wrapping_add(t.e),
+        f: s.f.wrapping_add(t.f),
+        g: s.g.wrapping_add(t.g),
+        h: s.h.wrapping_add(t.h),
     }
 }

@@ -2,11 +2,11 @@
 use mathlib.Core.Path.{◌≡◌, refl, ap, ◌∙◌}
 use mathlib.Core.List.{List, ◌∷◌, ◌++◌, append_assoc}
 use Prim.Native.Nat.{ℕ, zero, suc, ◌+◌, ◌-◌, ◌*◌, ◌/◌, ◌%◌, ◌≤◌}
-use native.Mathlib.Nat.{zero-add}
 use native.Mathlib.Omega.{arith}
 use lib.ListN.{length, take, drop, set, replicate, length-append, length-replicate}
 use lib.Seq.{take_at, set-append_seam, take-append-add}
-use Rattle.slices.specs.Bytes.{put, big_endian}
+use borrow.Rule.Slice.PartMut.{put_mid}
+use Rattle.slices.specs.Bytes.{big_endian}
 use Rattle.sha256_pad.specs.Padding.{zero_count, padding}
 use Rattle.sha256_pad.specs.Inner.{count_of}
 
@@ -38,31 +38,38 @@ drop_zeros (suc n) k (suc l) e = drop_zeros n k l (omega arith)
 
 -- the rest with the mark, in zeros
 marked : (rest z : List ℕ) (k n : ℕ) → n ≤ k → drop (length rest) z ≡ zeros (suc k)
-    → take (length rest + suc n) (set (put z 0 rest) (length rest) 0x80) ≡ rest ++ (0x80 ∷ zeros n)
+    → take (length rest + suc n) (set (rest ++ drop (length rest) z) (length rest) 0x80) ≡ rest ++ (0x80 ∷ zeros n)
 marked rest z k n h e =
-    rw (zero-add (length rest), e, set-append_seam rest 0 (zeros k) 0x80, take-append-add rest (0x80 ∷ zeros k) (suc n), take_zeros n k h)
+    rw (e, set-append_seam rest 0 (zeros k) 0x80, take-append-add rest (0x80 ∷ zeros k) (suc n), take_zeros n k h)
 
 -- the length in bits put at the end of a block
-ended : (rest bits b : List ℕ) (at end n : ℕ) → take at b ≡ rest ++ (0x80 ∷ zeros n) → length bits ≡ 8 → length rest + suc n + 8 ≡ end
-    → take end (put b at bits) ≡ rest ++ (0x80 ∷ (zeros n ++ bits))
-ended rest bits b at end n e g h =
+ended : (rest bits b : List ℕ) (at k end n : ℕ) → take at b ≡ rest ++ (0x80 ∷ zeros n) → length bits ≡ 8 → length rest + suc n + 8 ≡ end
+    → take end (put_mid at k b bits) ≡ rest ++ (0x80 ∷ (zeros n ++ bits))
+ended rest bits b at k end n e g h =
     let p : List ℕ = rest ++ (0x80 ∷ zeros n) in
+    let d : List ℕ = drop k (drop at b) in
     let l : length (p ++ bits) ≡ end = rw (length-append p bits, length-append rest (0x80 ∷ zeros n), zeros_length n) (omega arith) in
-    rw (e, take_at (p ++ bits) (drop (at + length bits) b) end l, append_assoc rest (0x80 ∷ zeros n) bits)
+    rw (e, ← append_assoc p bits d, take_at (p ++ bits) d end l, append_assoc rest (0x80 ∷ zeros n) bits)
 
 -- the buffer of the last blocks: zeros, the rest, the mark and the length in bits
-pub last_is : (rest : List ℕ) (total : ℕ) {z b₁ bits b₂ : List ℕ} → length rest ≡ total % 64
-    → z ≡ zeros 128
-    → b₁ ≡ put z 0 rest
+pub last_is : (rest : List ℕ) (total k : ℕ) {b bits : List ℕ} → length rest ≡ total % 64
+    → b ≡ rest
     → bits ≡ big_endian 8 (8 * total)
-    → b₂ ≡ put (set b₁ (length rest) 0x80) ((length rest + 8) / 64 * 64 + 56) bits
-    → take (64 * count_of (length rest)) b₂ ≡ rest ++ padding total
+    → take (64 * count_of (length rest))
+    (put_mid ((length rest + 8) / 64 * 64 + 56) k (set (b ++ drop (length rest) (zeros 128)) (length rest) 0x80) bits)
+    ≡ rest ++ padding total
 unfolding count_of padding
-last_is rest total {z} {b₁} {bits} {b₂} h p q v e =
+last_is rest total k {b} {bits} h q v =
     let n : ℕ = zero_count total in
-    let k : ℕ = 127 - length rest in
+    let j : ℕ = 127 - length rest in
+    let z : List ℕ = zeros 128 in
     let at : (length rest + 8) / 64 * 64 + 56 ≡ length rest + suc n = omega arith in
-    let f : drop (length rest) z ≡ zeros (suc k) = rw p (drop_zeros (length rest) (suc k) 128 (omega arith)) in
-    let g : take (length rest + suc n) (set b₁ (length rest) 0x80) ≡ rest ++ (0x80 ∷ zeros n) = rw q (marked rest z k n (omega arith) f) in
+    let f : drop (length rest) z ≡ zeros (suc j) = drop_zeros (length rest) (suc j) 128 (omega arith) in
+    let g : take (length rest + suc n) (set (rest ++ drop (length rest) z) (length rest) 0x80) ≡ rest ++ (0x80 ∷ zeros n) = marked rest z j n (omega arith) f in
     let l : length bits ≡ 8 = ap length v ∙ big_endian_length 8 (8 * total) in
-    rw (e, at, ended rest bits (set b₁ (length rest) 0x80) (length rest + suc n) (64 * ((length rest + 8) / 64 + 1)) n g l (omega arith), v)
+    rw (
+      q,
+      at,
+      ended rest bits (set (rest ++ drop (length rest) z) (length rest) 0x80) (length rest + suc n) k (64 * ((length rest + 8) / 64 + 1)) n g l (omega arith),
+      v,
+    )

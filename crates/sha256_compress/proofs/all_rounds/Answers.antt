@@ -1,7 +1,7 @@
 -- how many words beyond the first 16 are there after n eights of rounds: eight for each, but 48 at the most
-use mathlib.Core.Path.{◌≡◌, refl, ap, ◌∙◌}
+use mathlib.Core.Path.{◌≡◌, refl, ◌∙◌}
 use mathlib.Core.List.{List}
-use Prim.Native.Nat.{ℕ, ◌<◌, ◌≤◌, ◌+◌, ◌*◌, ◌-◌, min}
+use Prim.Native.Nat.{ℕ, ◌<◌, ◌≤◌, ◌+◌, ◌*◌, min}
 use native.Mathlib.Omega.{arith}
 use lib.ListN.{length, take, length-take}
 use Rattle.sha256_block.specs.Block.{schedule, rounds}
@@ -29,7 +29,7 @@ kept n w v b h e i =
 
 pub loop-n-init : goal.loop-n-init
 unfolding schedule rounds
-loop-n-init c = (omega arith, c.requires, refl, refl)
+loop-n-init c = (c.requires, refl, refl)
 
 pub loop-n-preserved : goal.loop-n-preserved
 loop-n-preserved c =
@@ -38,9 +38,9 @@ loop-n-preserved c =
     let b = take 16 a.w.now in
     let z : length b ≡ 16 = omega (arith, length-take 16 a.w.now, c.requires) in
     let f : 8 * (l.n + 1) ≡ 8 * l.n + 8 = omega arith in
-    let q = c.eight-q.ensures ∙ part_rounds b z (min (8 * l.n) 48) 48 8 (8 * l.n) l.w a.s l.q (omega arith) l.invariant.2 (omega arith) l.invariant.3 in
+    let q = c.eight-q.ensures ∙ part_rounds b z (min (8 * l.n) 48) 48 8 (8 * l.n) l.w a.s l.q (omega arith) l.invariant.1 (omega arith) l.invariant.2 in
     let r : c.eight-q.result ≡ rounds (8 * (l.n + 1)) (schedule 48 b) a.s = rw f q in
-    (omega arith, grind (arith, length_words, l.invariant.1), grind (arith, made, kept, l.invariant.1, l.invariant.2), r)
+    (grind (arith, length_words, l.invariant.0), grind (arith, made, kept, l.invariant.0, l.invariant.1), r)
 
 pub returns : goal.returns
-returns c = let e : c.loop-n.n ≡ 8 = omega arith in c.loop-n.invariant.3 ∙ rw e
+returns c = let e : c.loop-n.n ≡ 8 = omega arith in c.loop-n.invariant.2 ∙ rw e

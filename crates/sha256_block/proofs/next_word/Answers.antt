@@ -1,6 +1,0 @@
-use Rattle.sha256_block.specs.Block.{next_word}
-use Rattle.sha256_block.proofs.next_word.Goals as goal
-
-pub returns : goal.returns
-unfolding next_word
-returns c = cc
