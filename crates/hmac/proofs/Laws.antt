@@ -1,33 +1,42 @@
 -- Keys as blocks, byte by byte, and the size of a tag.
-use mathlib.Core.Path.{◌≡◌, refl}
-use mathlib.Core.List.{List, [], ◌∷◌, ◌++◌, map-append}
+use mathlib.Core.Path.{◌≡◌, refl, ap, ◌∙◌}
+use mathlib.Core.List.{List, ◌++◌, append-nil}
 use mathlib.Core.Bool.{Bool, true, false, cond}
-use Prim.Native.Nat.{ℕ, suc, ◌+◌, ◌-◌, ◌≤◌, ◌<◌}
-use native.Mathlib.Nat.{zero-add}
+use Prim.Native.Nat.{ℕ, ◌+◌, ◌-◌, ◌≤◌, ◌<◌}
 use native.Mathlib.Omega.{arith}
 use lib.Bits.{bit_xor}
 use lib.Dec.{leb}
-use lib.ListN.{length, take, get_or, length-append, length-map, length-replicate}
-use lib.Seq.{take-suc}
+use lib.ListN.{length, get_or, set, take, drop, length-take, length-drop, drop_of_length-le, length-append, length-map, length-replicate}
+use lib.Seq.{take_all}
+use Rattle.std.proofs.lemmas.List.{get_or_default}
+use Rattle.std.proofs.lemmas.List.Edits.{map_over_more}
 use borrow.Author.Tests.{leb-true}
-use Rattle.slices.specs.Bytes.{all, put}
-use Rattle.sha256.specs.Sha256.{is_byte, sha256}
+use Rattle.sha256.specs.Sha256.{sha256}
 use Rattle.sha256_pad.proofs.Laws.{zeros, drop_zeros}
 use Rattle.sha256.specs.Inner.{after_block}
-use Rattle.sha256.proofs.Padding.{sha256-length, sha256-bytes}
+use Rattle.sha256.proofs.Padding.{sha256-length}
 use Rattle.hmac.specs.declared.Keyed.{Keyed}
 use Rattle.hmac.specs.Hmac.{filled, block_key, xored, hmac}
 use Rattle.hmac.specs.Keyed.{keyed_of}
 
--- a key put into a block of zeros
-pub filled_is : (k : List ℕ) → length k ≤ 64 → put (zeros 64) 0 k ≡ filled k
+-- a key copied into a block of zeros
+pub filled_is : (k : List ℕ) {b : List ℕ} → length k ≤ 64 → b ≡ k → b ++ drop (length k) (zeros 64) ≡ filled k
 unfolding filled
-filled_is k h = rw (zero-add (length k), drop_zeros (length k) (64 - length k) 64 (omega arith))
+filled_is k h e = rw (e, drop_zeros (length k) (64 - length k) 64 (omega arith))
 
--- one byte more
-pub xored-suc : (x : ℕ) (k : List ℕ) (i : ℕ) → i < length k → xored x (take (suc i) k) ≡ xored x (take i k) ++ (bit_xor (get_or k i 0) x ∷ [])
-unfolding xored
-xored-suc x k i h = rw (take-suc k i 0 h, map-append {A = ℕ} {B = ℕ} (λ b. bit_xor b x) (take i k) (get_or k i 0 ∷ []))
+-- of r, the bytes before i done: as long as b, one byte more, all bytes
+module _ (x i : ℕ) (b r : List ℕ) (e : r ≡ xored x (take i b) ++ drop i b) where
+  xored_long : length r ≡ length b
+  unfolding xored
+  xored_long = ap length e ∙ simp (length-append, length-map, length-take, length-drop) (omega arith)
+
+  pub xored_more : i < length r → set r i (bit_xor (get_or r i 0) x) ≡ xored x (take (i + 1) b) ++ drop (i + 1) b
+  unfolding xored
+  xored_more h = map_over_more (λ y. bit_xor y x) b r i (get_or r i 0) (omega (arith, h, xored_long)) e (get_or_default r i 0 (get_or r i 0) h)
+
+  pub xored_all : length r ≤ i → r ≡ xored x b
+  unfolding xored
+  xored_all h = let g : length b ≤ i = omega (arith, xored_long, h) in e ∙ rw (take_all i b g, drop_of_length-le b g) (append-nil _)
 
 pub hmac-length : (key m : List ℕ) → length (hmac key m) ≡ 32
 unfolding hmac

@@ -2,8 +2,6 @@
 use Rattle.std.specs.Prelude.{List, ◌++◌, map, Bool, cond, ◌&&◌, ℕ, ◌-◌, length, replicate, leb}
 use Rattle.std.specs.Int.Bits.{bit_xor}
 use Rattle.sha256.specs.Sha256.{sha256, within_limit}
-use Rattle.hmac.specs.declared.Tagged.{Tagged}
-use Rattle.hmac.specs.declared.Tagged.TheVariants.{Done, TooLong}
 
 -- step (1): zeros appended up to a block
 unfoldable pub filled : List ℕ → List ℕ
@@ -24,11 +22,6 @@ hmac key m = sha256 (xored 0x5c (block_key key) ++ sha256 (xored 0x36 (block_key
 -- document 01, the questions: "Digest and tag: input, and the tag's key, each at most 65,535 bytes?"
 abbrev pub both_allowed : List ℕ → List ℕ → Bool
 both_allowed key m = within_limit m && within_limit key
-
--- the paper's number of an outcome: 0 for a success, 9 for the refusal
-abbrev pub tagged_no : Tagged → ℕ
-tagged_no Done = 0
-tagged_no TooLong = 9
 
 -- the number of the call on a key and m
 abbrev pub tag_no : List ℕ → List ℕ → ℕ

@@ -1,11 +1,10 @@
 -- SHA-256: FIPS 180-4, sections 5.2.1, 5.3.3 and 6.2, on messages of whole bytes; and document 01's numbers for a digest.
-use Rattle.std.specs.Prelude.{List, Bool, cond, ℕ, zero, suc, ◌*◌, ◌/◌, length, leb, ltb}
+use Rattle.std.specs.Prelude.{List, Bool, cond, Result, Ok, Err, ⊤, ℕ, zero, suc, ◌*◌, ◌/◌, length, leb, ltb}
 use Rattle.sha256_core.specs.declared.State.{State}
 use Rattle.sha256_pad.specs.Padding.{pad}
 use Rattle.sha256_block.specs.Block.{words_at, compress_of}
 use Rattle.sha256_bytes.specs.Bytes.{bytes_of}
-use Rattle.sha256.specs.declared.Digested.{Digested}
-use Rattle.sha256.specs.declared.Digested.TheVariants.{Done, TooLong}
+use Rattle.sha256.specs.declared.TooLong.{TooLong}
 
 -- a message is a list of bytes
 abbrev pub is_byte : ℕ → Bool
@@ -42,10 +41,10 @@ sha256 m = bytes_of (hash_from initial (block_count m) (pad m))
 abbrev pub within_limit : List ℕ → Bool
 within_limit m = leb (length m) 65535
 
--- the paper's number of an outcome: 0 for a success, 9 for the refusal
-abbrev pub digested_no : Digested → ℕ
-digested_no Done = 0
-digested_no TooLong = 9
+-- the paper's number of an outcome of a digest or a tag: 0 for a success, 9 for the refusal
+abbrev pub outcome_no : Result ⊤ TooLong → ℕ
+outcome_no (Ok _) = 0
+outcome_no (Err _) = 9
 
 -- the number of the call on m
 abbrev pub digest_no : List ℕ → ℕ

@@ -2,18 +2,16 @@
 #![tactic(auto)]
 
 ghost use Rattle.std.specs.Prelude.{◌≡◌, List, ◌++◌, ℕ, ◌+◌, ◌/◌, ◌%◌, ◌≤◌, length};
-ghost use Rattle.sha256.specs.Sha256.{initial, hash_from, sha256, digested_no, digest_no, digest_out};
+ghost use Rattle.sha256.specs.Sha256.{initial, hash_from, sha256, outcome_no, digest_no, digest_out};
 ghost use Rattle.sha256.specs.Inner.{rest_from, after_block};
 
 use sha256_core::State;
 
-// What a digest call says: the digest was written, or the input is over 65,535 bytes (9).
-#[derive(Clone, Copy)]
-pub enum Digested {
-    Done,
-    TooLong,
-}
+// The refusal of a digest or a tag (9): the input, or the tag's key, is over 65,535 bytes.
+#[derive(Clone, Copy, Debug, PartialEq, Eq)]
+pub struct TooLong;
 
+#[tactic(auto, unfolding(crate::specs::Sha256::initial))]
 fn initial_state() -> State
     ensures { result ≡ initial }
 {
@@ -33,12 +31,9 @@ fn initial_state() -> State
 fn whole_blocks(s: State, m: &[u8]) -> State
     ensures { result ≡ hash_from s (length m.now / 64) m.now }
 {
-    let count = m.len() / 64;
     let mut q = s;
-    let mut n: usize = 0;
-    while n < count {
+    for n in 0..m.len() / 64 {
         q = sha256_compress::compress(q, m, 64 * n);
-        n += 1;
     }
     q
 }
@@ -51,7 +46,7 @@ fn hash_from(s: State, before: usize, m: &[u8]) -> State
     let n = m.len();
     let q = whole_blocks(s, m);
     let from = n / 64 * 64;
-    let b = sha256_pad::last_blocks(&m[from..n], before + n);
+    let b = sha256_pad::last_blocks(&m[from..], before + n);
     let p = sha256_compress::compress(q, &b, 0);
     if n % 64 < 56 {
         p
@@ -69,6 +64,7 @@ pub fn digest_of(m: &[u8]) -> [u8; 32]
 }
 
 // Inner form: the hash value after one block p.
+#[tactic(auto, unfolding(crate::specs::Inner::after_block))]
 pub fn after_block(p: &[u8; 64]) -> State
     ensures { result ≡ after_block p.now }
 {
@@ -85,12 +81,12 @@ pub fn digest_from(s: State, m: &[u8]) -> [u8; 32]
 
 // The digest of any input: written to `out`, or refused (9) with `out` as it was.
 #[tactic(auto, unfolding(crate::specs::Sha256::digest_out))]
-pub fn digest(input: &[u8], out: &mut [u8; 32]) -> Digested
-    ensures { (digested_no result ≡ digest_no input.now) × (out.new ≡ digest_out input.now out.old) }
+pub fn digest(input: &[u8], out: &mut [u8; 32]) -> Result<(), TooLong>
+    ensures { (outcome_no result ≡ digest_no input.now) × (out.new ≡ digest_out input.now out.old) }
 {
     if 65535 < input.len() {
-        return Digested::TooLong;
+        return Err(TooLong);
     }
     *out = digest_of(input);
-    Digested::Done
+    Ok(())
 }

@@ -1,7 +1,0 @@
-use borrow.Author.Rules.{rules}
-use Rattle.sha256.specs.Sha256.{initial}
-use Rattle.sha256.proofs.initial_state.Goals as goal
-
-pub returns : goal.returns
-unfolding initial
-returns c = search rules
