@@ -13,7 +13,7 @@ pub extern "C" fn rattle_different_bits(s: &[u8; 32], t: &[u8; 32]) -> u8
     tag_compare::different_bits(*s, *t)
 }
 
-// Whether two tags are equal, by a loop that ends at the first difference: what chain values are compared with.
+// Whether two tags are equal, by a comparison that ends early at a difference: what chain values are compared with.
 #[unsafe(no_mangle)]
 pub extern "C" fn rattle_equal(s: &[u8; 32], t: &[u8; 32]) -> bool
     ensures { result ≡ same s.now t.now }
