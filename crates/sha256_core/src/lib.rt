@@ -3,7 +3,7 @@
 
 ghost use Rattle.std.specs.Prelude.{◌≡◌, ◌<◌};
 ghost use Rattle.sha256_core.specs.Words.{Ch, Maj, Σ0, Σ1, σ0, σ1};
-ghost use Rattle.sha256_core.specs.Round.{k_table, round_at, add_state};
+ghost use Rattle.sha256_core.specs.Round.{round_at, add_state};
 
 #[derive(Clone, Copy)]
 pub struct State {
@@ -122,25 +122,17 @@ const K: [u32; 64] = [
     0xc671_78f2,
 ];
 
-// The table, to be lent to each round.
-#[tactic(auto, unfolding(crate::specs::Round::k_table))]
-pub fn table() -> [u32; 64]
-    ensures { result ≡ k_table }
-{
-    K
-}
-
-// Round t, with the constants k and the schedule w lent.
-#[tactic(auto, unfolding(crate::specs::Round::round_at, crate::specs::Round::round_of))]
-pub fn round(k: &[u32; 64], w: &[u32; 64], t: usize, s: State) -> State
-    requires { (t < 64) × (k.now ≡ k_table) }
+// Round t, with the schedule w lent.
+#[tactic(auto, unfolding(crate::specs::Round::round_at, crate::specs::Round::round_of, crate::specs::Round::k_table))]
+pub fn round(w: &[u32; 64], t: usize, s: State) -> State
+    requires { t < 64 }
     ensures { result ≡ round_at t w.now s }
 {
     let t1 = s
         .h
         .wrapping_add(big1(s.e))
         .wrapping_add(ch(s.e, s.f, s.g))
-        .wrapping_add(k[t])
+        .wrapping_add(K[t])
         .wrapping_add(w[t]);
     let t2 = big0(s.a).wrapping_add(maj(s.a, s.b, s.c));
     State {
