@@ -87,8 +87,7 @@ fn response_to(e: Operation, v: u8, t: u8) -> Response
 fn number_at(s: [u8; operation::CELL_COUNT], i: u8) -> u8
     ensures { result ≡ number_at s i }
 {
-    let k = i as usize;
-    if k < operation::CELL_COUNT { s[k] } else { 0 }
+    s.get(i as usize).copied().unwrap_or(0)
 }
 
 // The numbers with `x` at `i`, and as they are where there is no such place.
@@ -109,8 +108,7 @@ fn with_number(s: [u8; operation::CELL_COUNT], i: u8, x: u8) -> [u8; operation::
 pub fn run_on(e: Operation, cells: Cells) -> Cells
     ensures { result ≡ after e cells }
 {
-    let values = cells.values;
-    let temps = cells.temps;
+    let Cells { values, temps } = cells;
     let k = e.cell;
     let v = value_after(e, number_at(values, k));
     let t = temp_after(e, number_at(temps, k));
@@ -126,9 +124,11 @@ pub fn run_on(e: Operation, cells: Cells) -> Cells
 pub fn response_on(e: Operation, cells: Cells) -> Response
     ensures { result ≡ response_on e cells }
 {
-    let values = cells.values;
-    let temps = cells.temps;
-    response_to(e, number_at(values, e.cell), number_at(temps, e.cell))
+    response_to(
+        e,
+        number_at(cells.values, e.cell),
+        number_at(cells.temps, e.cell),
+    )
 }
 
 // The cells after an operation with its status: an aborted one changes nothing.
@@ -139,18 +139,13 @@ pub fn effect_on(success: bool, e: Operation, cells: Cells) -> Cells
     if success { run_on(e, cells) } else { cells }
 }
 
-// The cells after the first `n` of the operations.
-pub fn run_all(es: [Operation; operation::MAX_PENDING], n: usize, cells: Cells) -> Cells
-    requires { n ≤ max_pending }
-    ensures { result ≡ run_all (take n es) cells }
+// The cells after the operations.
+pub fn run_all(es: &[Operation], cells: Cells) -> Cells
+    ensures { result ≡ run_all es.now cells }
 {
-    let mut t = cells;
-    let mut k = 0;
-    while k < n {
-        let e = es[k];
-        let u = run_on(e, t);
-        t = u;
-        k += 1;
+    let mut after = cells;
+    for e in es {
+        after = run_on(*e, after);
     }
-    t
+    after
 }

@@ -6,7 +6,7 @@ use lib.IntN.{pos}
 use mir.Syntax.{w16}
 use mir.Facts.{to_z-of_z}
 use borrow.Author.Rules.{rules}
-use Rattle.operation.specs.Operation.{value_response, response}
+use Rattle.operation.specs.Operation.{response}
 use Rattle.operation.proofs.Laws.{value-response_range}
 use Rattle.operation_run.proofs.Bytes.{plain}
 use Rattle.operation_run.proofs.response_to.Goals as goal
