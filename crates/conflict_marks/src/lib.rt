@@ -15,10 +15,8 @@ pub fn lay_out(wide: &mut [bool; 768], marks: &[bool; 256])
     requires { (length marks.now ≡ 256) × Blank wide.old }
     ensures { Laid marks.now wide.new }
 {
-    let mut v = 0;
-    while v < 256 {
+    for v in 0..256 {
         wide[v + 256] = marks[v] | wide[v];
-        v += 1;
     }
 }
 
@@ -28,10 +26,8 @@ pub fn any_marked(wide: &[bool; 768], at: usize) -> bool
     ensures { (result ≡ true) ↔ ((k : ℕ) × (k < 256) × Has wide.now (at + k)) }
 {
     let mut found = false;
-    let mut k = 0;
-    while k < 256 {
-        found = found | wide[at + k];
-        k += 1;
+    for k in 0..256 {
+        found |= wide[at + k];
     }
     found
 }
@@ -41,11 +37,8 @@ pub fn merge(into: &mut [bool; 256], wide: &[bool; 768], at: usize)
     requires { (at ≤ 512) × (length into.old ≡ 256) }
     ensures { Joined 256 at wide.now into.old into.new }
 {
-    let mut v = 0;
-    while v < 256 {
-        let y = into[v];
-        into[v] = y | wide[at + v];
-        v += 1;
+    for v in 0..256 {
+        into[v] |= wide[at + v];
     }
 }
 

@@ -59,10 +59,8 @@ pub fn widen(reach: &mut [[bool; 256]; 33], wide: &mut [bool; 768], m: usize, e:
         return;
     }
     let at = conflict_marks::moved_from(e, true);
-    let mut j = 0;
-    while j <= m {
+    for j in 0..m + 1 {
         conflict_marks::lay_out(wide, &reach[j]);
         run_into(&mut reach[j], wide, e, at);
-        j += 1;
     }
 }
