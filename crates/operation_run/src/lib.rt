@@ -4,35 +4,34 @@
 ghost use Rattle.std.specs.Prelude.{◌≡◌, ◌+◌, ◌≤◌, take, set};
 ghost use Rattle.operation.specs.Operation.{max_pending, signed, number_at, value, temp, failed, value_response, response, after, response_on, effect, run_all};
 
-use operation::{Cells, Operation, Response};
+use operation::{Cells, Kind, Operation, Response};
 
 // What the operation's cell holds after it, where it held `v`.
+#[tactic(auto, unfolding(operation::specs::Operation::value))]
 pub fn value_after(e: Operation, v: u8) -> u8
     ensures { result ≡ value e v }
 {
-    let kind = e.kind;
     let amount = e.amount;
-    let adds = kind == 1;
-    if adds {
-        if v as u32 + amount as u32 <= 255 {
-            v + amount
-        } else {
-            v
-        }
-    } else if kind == 2 {
-        if amount <= v { v - amount } else { v }
-    } else if (kind == 4) | (kind == 5) {
-        amount
-    } else {
-        v
+    let Some(kind) = Kind::of(e.kind) else {
+        return v;
+    };
+    match kind {
+        Kind::Add => v.checked_add(amount).unwrap_or(v),
+        Kind::Take => v.checked_sub(amount).unwrap_or(v),
+        Kind::Set | Kind::SetWithTemp => amount,
+        Kind::Read | Kind::ReadTemp => v,
     }
 }
 
 // The temperature of the operation's cell after it, where it was `t`.
+#[tactic(auto, unfolding(operation::specs::Operation::temp))]
 fn temp_after(e: Operation, t: u8) -> u8
     ensures { result ≡ temp e t }
 {
-    if e.kind == 5 { e.last } else { t }
+    match Kind::of(e.kind) {
+        Some(Kind::SetWithTemp) => e.last,
+        _ => t,
+    }
 }
 
 // What is answered by an add or take that fails, where its cell holds `v`.
@@ -43,23 +42,25 @@ fn failed_at(v: u8) -> u16
 }
 
 // What is answered by the value `v` of the operation's cell: the response of every kind but 6.
+#[tactic(auto, unfolding(operation::specs::Operation::value_response))]
 pub fn value_response(e: Operation, v: u8) -> u16
     ensures { result ≡ value_response e v }
 {
-    let kind = e.kind;
     let amount = e.amount;
-    if kind == 1 {
-        if v as u32 + amount as u32 <= 255 {
-            1
-        } else {
-            failed_at(v)
+    let Some(kind) = Kind::of(e.kind) else {
+        return 1;
+    };
+    match kind {
+        Kind::Add => {
+            if v as u32 + amount as u32 <= 255 {
+                1
+            } else {
+                failed_at(v)
+            }
         }
-    } else if kind == 2 {
-        if amount <= v { 1 } else { failed_at(v) }
-    } else if kind == 3 {
-        v as u16
-    } else {
-        1
+        Kind::Take => { if amount <= v { 1 } else { failed_at(v) } }
+        Kind::Read => v as u16,
+        Kind::Set | Kind::SetWithTemp | Kind::ReadTemp => 1,
     }
 }
 
@@ -76,10 +77,9 @@ pub fn signed_of(b: u8) -> Response
 fn response_to(e: Operation, v: u8, t: u8) -> Response
     ensures { result ≡ response e v t }
 {
-    if e.kind == 6 {
-        signed_of(t)
-    } else {
-        value_response(e, v) as i16
+    match Kind::of(e.kind) {
+        Some(Kind::ReadTemp) => signed_of(t),
+        _ => value_response(e, v) as i16,
     }
 }
 
