@@ -1,5 +1,4 @@
 use mathlib.Core.Path.{◌≡◌}
-use Prim.Native.Nat.{◌-◌}
 use native.Mathlib.Omega.{arith}
 use Rattle.conflict_marks.proofs.Stored.{none_laid, one_laid, all_laid}
 use Rattle.conflict_marks.proofs.lay_out.Goals as goal
