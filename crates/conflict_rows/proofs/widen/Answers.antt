@@ -1,5 +1,5 @@
 use Prim.Native.Nat.{ℕ, ◌-◌}
-use mathlib.Core.Path.{◌≡◌, ap, ◌∙◌}
+use mathlib.Core.Path.{◌≡◌, sym, ap, ◌∙◌}
 use mathlib.Core.Bool.{Bool}
 use mathlib.Core.List.{List}
 use native.Mathlib.Omega.{arith}
@@ -13,8 +13,8 @@ use Rattle.conflict_rows.proofs.widen.Goals as goal
 row : {j : ℕ} {e : Operation} {l r : List (List Bool)} → Widening j e l r → length (marks_at l j) ≡ 256 → length (marks_at r j) ≡ 256
 row {j} w h = ap length (w.left j (omega arith)) ∙ h
 
-pub returns-then-e : goal.returns-then-e
-returns-then-e c = (record { long = c.requires.1; each = λ j h. read_moved c.if-e.true (c.requires.2 j h) }, c.requires.3)
+pub returns-then-is_read : goal.returns-then-is_read
+returns-then-is_read c = (record { long = c.requires.1; each = λ j h. read_moved (sym c.is_read.ensures ∙ c.if-is_read.true) (c.requires.2 j h) }, c.requires.3)
 
 pub loop-j-init : goal.loop-j-init
 loop-j-init c = (c.requires.3, none_widened c.requires.1)
