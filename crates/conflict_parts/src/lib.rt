@@ -8,7 +8,7 @@ ghost use Rattle.conflict_numbers.specs.Numbers.{changed, answered};
 ghost use Rattle.conflict_parts.specs.Parts.{is_temps, has_part, part_of, parts_of};
 
 use conflict_numbers::View;
-use operation::Operation;
+use operation::{Kind, Operation};
 
 // What operations are to the cells' values, or to their temperatures.
 #[derive(Clone, Copy, Debug, PartialEq, Eq)]
@@ -25,16 +25,16 @@ impl View for Part {
     // To temperatures, kind 5 is a set to its last byte, and kind 6 a read, as operations on numbers.
     #[tactic(auto, unfolding(crate::specs::Parts::temp_part))]
     fn part_of(self, e: Operation) -> Option<Operation> {
-        match (self, e.kind) {
-            (Part::Values, 6) => None,
+        match (self, Kind::of(e.kind)) {
+            (Part::Values, Some(Kind::ReadTemp)) => None,
             (Part::Values, _) => Some(e),
-            (Part::Temps, 5) => Some(Operation {
+            (Part::Temps, Some(Kind::SetWithTemp)) => Some(Operation {
                 kind: 4,
                 amount: e.last,
                 last: 0,
                 ..e
             }),
-            (Part::Temps, 6) => Some(Operation {
+            (Part::Temps, Some(Kind::ReadTemp)) => Some(Operation {
                 kind: 3,
                 amount: 0,
                 last: 0,
