@@ -1,26 +1,16 @@
 // The conflict test. What a conflict is: specs/Conflict.antt.
 #![tactic(auto)]
 
-ghost use Rattle.std.specs.Prelude.{◌≡◌, ◌≤◌, ◌⊎◌, take};
-ghost use Rattle.operation.specs.Operation.{max_pending};
+ghost use Rattle.std.specs.Prelude.{◌≡◌, take};
 ghost use Rattle.conflict.specs.Conflict.{conflicts};
 
+use conflict_parts::Part;
 use operation::{Cells, Operation};
-
-// The number, at most `MAX_PENDING`.
-fn at_most_pending(n: usize) -> usize
-    ensures { (result ≤ max_pending) × ((result ≡ n) ⊎ ((result ≡ max_pending) × (max_pending ≤ n))) }
-{
-    if n < operation::MAX_PENDING {
-        n
-    } else {
-        operation::MAX_PENDING
-    }
-}
 
 // Whether the first `n` of the others' operations conflict with the first `m` own ones: by the cells' values, or by their
 // temperatures. A number above `MAX_PENDING` means all. Where no own operation is about temperatures, the values decide, on
 // the lists as they are.
+// Public, for every number: by value with its arrays, as its callers have them.
 pub fn conflict(
     cells: Cells,
     others: [Operation; operation::MAX_PENDING],
@@ -30,16 +20,11 @@ pub fn conflict(
 ) -> bool
     ensures { result ≡ conflicts cells (take n others) (take m own) }
 {
-    let a = at_most_pending(n);
-    let b = at_most_pending(m);
-    let values = cells.values;
-    let temps = cells.temps;
-    let no_temps = conflict_parts::count_parts(own, b, true) == 0;
-    if no_temps {
-        return conflict_numbers::differs_on(values, others, a, own, b);
+    let theirs = &others[..n.min(operation::MAX_PENDING)];
+    let mine = &own[..m.min(operation::MAX_PENDING)];
+    if conflict_numbers::count(mine, Part::Temps) == 0 {
+        return conflict_numbers::differs_on(cells.values, theirs, mine);
     }
-    if conflict_parts::parts_differ(values, others, a, own, b, false) {
-        return true;
-    }
-    conflict_parts::parts_differ(temps, others, a, own, b, true)
+    conflict_parts::parts_differ(cells.values, theirs, mine, Part::Values)
+        || conflict_parts::parts_differ(cells.temps, theirs, mine, Part::Temps)
 }

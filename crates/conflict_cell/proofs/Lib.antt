@@ -1,3 +1,3 @@
 pub mod First
 pub mod Reach
-pub mod Taken
+pub mod Steps

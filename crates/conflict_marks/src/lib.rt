@@ -4,7 +4,7 @@
 ghost use Rattle.std.specs.Prelude.{◌≡◌, ℕ, ◌+◌, ◌<◌, ◌≤◌, true, ◌↔◌, length};
 ghost use Rattle.conflict_marks.specs.Marks.{Has, Blank, Laid, Joined, moved_from, SameSpan};
 
-use operation::Operation;
+use operation::{Kind, Operation};
 
 // Lays 256 marks out in the middle of 768 places; those below and above stay unmarked. So the marks of the values
 // below x are those of the 256 places from x on, those from x on are those of the 256 places from 256 + x on, and
@@ -15,10 +15,8 @@ pub fn lay_out(wide: &mut [bool; 768], marks: &[bool; 256])
     requires { (length marks.now ≡ 256) × Blank wide.old }
     ensures { Laid marks.now wide.new }
 {
-    let mut v = 0;
-    while v < 256 {
+    for v in 0..256 {
         wide[v + 256] = marks[v] | wide[v];
-        v += 1;
     }
 }
 
@@ -28,10 +26,8 @@ pub fn any_marked(wide: &[bool; 768], at: usize) -> bool
     ensures { (result ≡ true) ↔ ((k : ℕ) × (k < 256) × Has wide.now (at + k)) }
 {
     let mut found = false;
-    let mut k = 0;
-    while k < 256 {
-        found = found | wide[at + k];
-        k += 1;
+    for k in 0..256 {
+        found |= wide[at + k];
     }
     found
 }
@@ -41,11 +37,8 @@ pub fn merge(into: &mut [bool; 256], wide: &[bool; 768], at: usize)
     requires { (at ≤ 512) × (length into.old ≡ 256) }
     ensures { Joined 256 at wide.now into.old into.new }
 {
-    let mut v = 0;
-    while v < 256 {
-        let y = into[v];
-        into[v] = y | wide[at + v];
-        v += 1;
+    for v in 0..256 {
+        into[v] |= wide[at + v];
     }
 }
 
@@ -53,17 +46,15 @@ pub fn merge(into: &mut [bool; 256], wide: &[bool; 768], at: usize)
 pub fn moved_from(e: Operation, moves: bool) -> usize
     ensures { (result ≤ 512) × (result ≡ moved_from e «moves») }
 {
-    let a = e.amount as usize;
-    if moves {
-        let adds = e.kind == 1;
-        if adds {
-            return 256 - a;
-        }
-        if e.kind == 2 {
-            return 256 + a;
-        }
+    if !moves {
+        return 256;
     }
-    256
+    let a = e.amount as usize;
+    match Kind::of(e.kind) {
+        Some(Kind::Add) => 256 - a,
+        Some(Kind::Take) => 256 + a,
+        _ => 256,
+    }
 }
 
 // Values from `lo` up to `hi`.
@@ -81,21 +72,22 @@ pub fn same_span(e: Operation, u: u8) -> Span
     let a = e.amount as usize;
     let v = u as usize;
     let only = Span { lo: v, hi: v + 1 };
-    if e.kind == 1 {
-        if v + a <= 255 {
-            return Span { lo: 0, hi: 256 - a };
+    match Kind::of(e.kind) {
+        Some(Kind::Add) => {
+            if v + a <= 255 {
+                Span { lo: 0, hi: 256 - a }
+            } else {
+                only
+            }
         }
-        return only;
-    }
-    if e.kind == 2 {
-        if a <= v {
-            return Span { lo: a, hi: 256 };
+        Some(Kind::Take) => {
+            if a <= v {
+                Span { lo: a, hi: 256 }
+            } else {
+                only
+            }
         }
-        return only;
+        Some(Kind::Read) => only,
+        _ => Span { lo: 0, hi: 256 },
     }
-    let reads = e.kind == 3;
-    if reads {
-        return only;
-    }
-    Span { lo: 0, hi: 256 }
 }

@@ -1,13 +1,14 @@
 -- A conflict told by parts of its operations. Assumes nothing.
-use Prim.Native.Nat.{ℕ, ◌+◌, ◌<◌, ◌≤◌}
+use Prim.Native.Nat.{ℕ, suc, ◌+◌, ◌<◌, ◌≤◌}
 use mathlib.Core.Path.{◌≡◌, refl, sym, ap, ◌∙◌}
 use mathlib.Core.Bool.{Bool, true, false, cond}
 use mathlib.Core.List.{List, [], ◌∷◌, ◌++◌, append-nil}
 use mathlib.Core.Logic.{◌↔◌}
 use native.Mathlib.Omega.{arith}
 use native.Mathlib.Numerals.{add-one}
-use lib.ListN.{get_or, set, take, length, length-append}
-use lib.Seq.{length-take-le, take-suc-set}
+use lib.ListN.{get_or, set, take, length}
+use lib.Seq.{take-suc-set}
+use Rattle.std.specs.List.{filter}
 use Rattle.operation.specs.declared.Operation.{Operation}
 use Rattle.operation.specs.Operation.{no_op}
 use Rattle.operation.proofs.Laws.{take_more}
@@ -45,15 +46,28 @@ module _ (test : Operation → Bool) (part : Operation → Operation) where
   out_take ops i h q =
       rw (take_more ops i h, more (take i ops) (get_or ops i no_op), out_cons (get_or ops i no_op) [] q, append-nil (parts test part (take i ops)))
 
-  pub count_more : (ops : List Operation) (i : ℕ) → i < length ops → test (get_or ops i no_op) ≡ true → length (parts test part (take (i + 1) ops)) ≡ length (parts test part (take i ops)) + 1
-  count_more ops i h q = ap length (in_take ops i h q) ∙ length-append (parts test part (take i ops)) (part (get_or ops i no_op) ∷ [])
+  -- How many pass the test.
+  pub filter_parts : (es : List Operation) → length (filter test es) ≡ length (parts test part es)
+  unfolding parts
+  filter_parts [] = refl
+  filter_parts (e ∷ es) = go (test e) (filter_parts es)
+    where
+      go : (b : Bool) → length (filter test es) ≡ length (parts test part es)
+          → length (cond b (e ∷ filter test es) (filter test es)) ≡ length (cond b (part e ∷ parts test part es) (parts test part es))
+      go true q = ap suc q
+      go false q = q
+
+pub filter_short : (test : Operation → Bool) (es : List Operation) → length (filter test es) ≤ length es
+filter_short test [] = omega arith
+filter_short test (e ∷ es) = go (test e) (filter_short test es)
+  where
+    go : (b : Bool) → length (filter test es) ≤ length es → length (cond b (e ∷ filter test es) (filter test es)) ≤ length (e ∷ es)
+    go true q = omega (arith, q)
+    go false q = omega (arith, q)
 
 -- Parts put at the front of a list.
 pub put_more : (l xs : List Operation) (c : ℕ) (e : Operation) → c < length l → take c l ≡ xs → take (c + 1) (set l c e) ≡ xs ++ (e ∷ [])
 put_more l xs c e h p = rw (add-one c, ← p) (take-suc-set l c e h)
-
-pub front : (c : ℕ) (l xs : List Operation) → c ≤ length l → take c l ≡ xs → take (length xs) l ≡ xs
-front c l xs h p = let q : length xs ≡ c = ap length (sym p) ∙ length-take-le c l h in rw q p
 
 empty : (l : List Operation) → length l ≡ 0 → l ≡ []
 empty [] h = refl
@@ -74,11 +88,6 @@ module _ {S R : Type 0} (val : Operation → S → S) (res : Operation → S →
 
   pub untouched_other : (v : S) (os ws : List Operation) → length os ≡ 0 → Differs val res v v os ws → ⊥
   untouched_other v os ws h d = no_other (rw (empty os h) at d) refl
-
--- The same lists under other names.
-pub renamed : {S R : Type 0} {val : Operation → S → S} {res : Operation → S → R} {r : Bool} {v : S} {p q os ws : List Operation} → p ≡ os → q ≡ ws
-    → (r ≡ true) ↔ Differs val res v v p q → (r ≡ true) ↔ Differs val res v v os ws
-renamed a b h = rw (a, b) at h
 
 -- Ways k to look at states: each sees a state of its own, the operations that pass its test, by their parts, and all that they answer.
 -- Between them they see every response that differs.

@@ -1,122 +1,68 @@
 // The conflict test by one part of the operations: what they are to the cells' values, or to their temperatures.
 #![tactic(auto)]
 
-ghost use Rattle.std.specs.Prelude.{◌≡◌, ◌≤◌, true, ◌↔◌, length, take};
+ghost use Rattle.std.specs.Prelude.{◌≡◌, ◌≤◌, true, ◌↔◌, length};
 ghost use Rattle.operation.specs.Operation.{max_pending};
 ghost use Rattle.conflict_cell.specs.Differs.{Differs};
 ghost use Rattle.conflict_numbers.specs.Numbers.{changed, answered};
-ghost use Rattle.conflict_parts.specs.Parts.{temp_part, has_part, part_of, parts_of};
+ghost use Rattle.conflict_parts.specs.Parts.{is_temps, has_part, part_of, parts_of};
 
-use operation::Operation;
+use conflict_numbers::View;
+use operation::{Kind, Operation};
 
-// What an operation of kind 5 or 6 is to temperatures, as an operation on numbers: a set to its last byte, or a read.
-fn temp_part(e: Operation) -> Operation
-    ensures { result ≡ temp_part e }
-{
-    if e.kind == 5 {
-        Operation {
-            count: e.count,
-            kind: 4,
-            cell: e.cell,
-            amount: e.last,
-            last: 0,
-        }
-    } else {
-        Operation {
-            count: e.count,
-            kind: 3,
-            cell: e.cell,
-            amount: 0,
-            last: 0,
+// What operations are to the cells' values, or to their temperatures.
+#[derive(Clone, Copy, Debug, PartialEq, Eq)]
+pub enum Part {
+    Values,
+    Temps,
+}
+
+impl View for Part {
+    ghost test = { λ p. has_part (is_temps p) };
+
+    ghost part = { λ p. part_of (is_temps p) };
+
+    // To temperatures, kind 5 is a set to its last byte, and kind 6 a read, as operations on numbers.
+    #[tactic(auto, unfolding(crate::specs::Parts::temp_part))]
+    fn part_of(self, e: Operation) -> Option<Operation> {
+        match (self, Kind::of(e.kind)) {
+            (Part::Values, Some(Kind::ReadTemp)) => None,
+            (Part::Values, _) => Some(e),
+            (Part::Temps, Some(Kind::SetWithTemp)) => Some(Operation {
+                kind: 4,
+                amount: e.last,
+                last: 0,
+                ..e
+            }),
+            (Part::Temps, Some(Kind::ReadTemp)) => Some(Operation {
+                kind: 3,
+                amount: 0,
+                last: 0,
+                ..e
+            }),
+            (Part::Temps, _) => None,
         }
     }
 }
 
-// Whether the operation is anything to the temperatures, or else to the values.
-fn has_part(e: Operation, temps: bool) -> bool
-    ensures { result ≡ has_part «temps» e }
-{
-    if temps {
-        (e.kind == 5) | (e.kind == 6)
-    } else {
-        e.kind != 6
-    }
-}
-
-// What the operation is to the temperatures, or else to the values.
-fn part_of(e: Operation, temps: bool) -> Operation
-    ensures { result ≡ part_of «temps» e }
-{
-    if temps { temp_part(e) } else { e }
-}
-
-// How many of the first `n` operations are anything to the temperatures, or else to the values.
-pub fn count_parts(ops: [Operation; operation::MAX_PENDING], n: usize, temps: bool) -> usize
-    requires { n ≤ max_pending }
-    ensures { (result ≡ length (parts_of «temps» (take n ops))) × (result ≤ n) }
-{
-    let mut c = 0;
-    let mut i = 0;
-    while i < n {
-        let e = ops[i];
-        if has_part(e, temps) {
-            c += 1;
-        }
-        i += 1;
-    }
-    c
-}
-
-// What the first `n` operations are to the temperatures, or else to the values, at the front.
-fn gather_parts(
-    ops: [Operation; operation::MAX_PENDING],
-    n: usize,
-    temps: bool,
-) -> [Operation; operation::MAX_PENDING]
-    requires { n ≤ max_pending }
-    ensures { take (length (parts_of «temps» (take n ops))) result ≡ parts_of «temps» (take n ops) }
-{
-    let mut new = ops;
-    let mut c = 0;
-    let mut i = 0;
-    while i < n {
-        let e = ops[i];
-        if has_part(e, temps) {
-            let p = part_of(e, temps);
-            new[c] = p;
-            c += 1;
-        }
-        i += 1;
-    }
-    new
-}
-
-// Whether some interleaving makes an own answer differ, by the temperatures, or else by the values: these are the
-// numbers. Where no own operation is anything to them, or none of the others', none does.
+// Whether some interleaving makes an own answer differ, by the values or by the temperatures: these are the numbers.
+// Where no own operation is anything to them, or none of the others', none does.
 pub fn parts_differ(
     numbers: [u8; operation::CELL_COUNT],
-    others: [Operation; operation::MAX_PENDING],
-    n: usize,
-    own: [Operation; operation::MAX_PENDING],
-    m: usize,
-    temps: bool,
+    others: &[Operation],
+    own: &[Operation],
+    part: Part,
 ) -> bool
-    requires { (n ≤ max_pending) × (m ≤ max_pending) }
-    ensures { (result ≡ true) ↔ Differs changed answered numbers numbers (parts_of «temps» (take n others)) (parts_of «temps» (take m own)) }
+    requires { (length others.now ≤ max_pending) × (length own.now ≤ max_pending) }
+    ensures { (result ≡ true) ↔ Differs changed answered numbers numbers (parts_of (is_temps part) others.now) (parts_of (is_temps part) own.now) }
 {
-    let own_count = count_parts(own, m, temps);
-    if own_count == 0 {
+    if conflict_numbers::count(own, part) == 0 {
         return false;
     }
-    let other_count = count_parts(others, n, temps);
-    if other_count == 0 {
+    if conflict_numbers::count(others, part) == 0 {
         return false;
     }
-    conflict_numbers::differs_on(
-        numbers,
-        gather_parts(others, n, temps),
-        other_count,
-        gather_parts(own, m, temps),
-        own_count,
-    )
+    let theirs = conflict_numbers::gather(others, part);
+    let mine = conflict_numbers::gather(own, part);
+    conflict_numbers::differs_on(numbers, theirs.as_slice(), mine.as_slice())
 }

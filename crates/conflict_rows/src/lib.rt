@@ -3,9 +3,23 @@
 
 ghost use Rattle.std.specs.Prelude.{◌≡◌, ℕ, ◌+◌, ◌<◌, ◌≤◌, true, ◌↔◌, length};
 ghost use Rattle.operation.specs.Operation.{max_pending};
-ghost use Rattle.conflict_marks.specs.Marks.{Has, Blank, Ran, Other, marks_at, Widened};
+ghost use Rattle.conflict_marks.specs.Marks.{Has, Blank, is_set, is_read, Ran, Other, marks_at, Widened};
 
-use operation::Operation;
+use operation::{Kind, Operation};
+
+// Whether the operation sets its cell. (By numbers, once for each row: a match on the kind makes the worst case a fifth slower.)
+fn is_set(e: Operation) -> bool
+    ensures { result ≡ is_set e }
+{
+    (e.kind == 4) | (e.kind == 5)
+}
+
+// Whether it leaves every value as it is, and only tells a value or a temperature.
+fn is_read(e: Operation) -> bool
+    ensures { result ≡ is_read e }
+{
+    matches!(Kind::of(e.kind), Some(Kind::Read | Kind::ReadTemp))
+}
 
 // Adds what the operation makes of the marks laid out: a set's amount, if there is any mark; else the marks moved
 // alike, so that the one at `at` comes to 0.
@@ -13,7 +27,7 @@ pub fn run_into(into: &mut [bool; 256], wide: &[bool; 768], e: Operation, at: us
     requires { (at ≤ 512) × (length into.old ≡ 256) }
     ensures { Ran e at wide.now into.old into.new }
 {
-    if (e.kind == 4) | (e.kind == 5) {
+    if is_set(e) {
         if conflict_marks::any_marked(wide, 256) {
             let a = e.amount as usize;
             into[a] = true;
@@ -55,14 +69,12 @@ pub fn widen(reach: &mut [[bool; 256]; 33], wide: &mut [bool; 768], m: usize, e:
     requires { (m ≤ max_pending) × (length reach.old ≡ 33) × ((j : ℕ) → j ≤ m → length (marks_at reach.old j) ≡ 256) × Blank wide.old }
     ensures { Widened m e reach.old reach.new × Blank wide.new }
 {
-    if (e.kind == 3) | (e.kind == 6) {
+    if is_read(e) {
         return;
     }
     let at = conflict_marks::moved_from(e, true);
-    let mut j = 0;
-    while j <= m {
+    for j in 0..m + 1 {
         conflict_marks::lay_out(wide, &reach[j]);
         run_into(&mut reach[j], wide, e, at);
-        j += 1;
     }
 }

@@ -4,35 +4,34 @@
 ghost use Rattle.std.specs.Prelude.{◌≡◌, ◌+◌, ◌≤◌, take, set};
 ghost use Rattle.operation.specs.Operation.{max_pending, signed, number_at, value, temp, failed, value_response, response, after, response_on, effect, run_all};
 
-use operation::{Cells, Operation, Response};
+use operation::{Cells, Kind, Operation, Response};
 
 // What the operation's cell holds after it, where it held `v`.
+#[tactic(auto, unfolding(operation::specs::Operation::value))]
 pub fn value_after(e: Operation, v: u8) -> u8
     ensures { result ≡ value e v }
 {
-    let kind = e.kind;
     let amount = e.amount;
-    let adds = kind == 1;
-    if adds {
-        if v as u32 + amount as u32 <= 255 {
-            v + amount
-        } else {
-            v
-        }
-    } else if kind == 2 {
-        if amount <= v { v - amount } else { v }
-    } else if (kind == 4) | (kind == 5) {
-        amount
-    } else {
-        v
+    let Some(kind) = Kind::of(e.kind) else {
+        return v;
+    };
+    match kind {
+        Kind::Add => v.checked_add(amount).unwrap_or(v),
+        Kind::Take => v.checked_sub(amount).unwrap_or(v),
+        Kind::Set | Kind::SetWithTemp => amount,
+        Kind::Read | Kind::ReadTemp => v,
     }
 }
 
 // The temperature of the operation's cell after it, where it was `t`.
+#[tactic(auto, unfolding(operation::specs::Operation::temp))]
 fn temp_after(e: Operation, t: u8) -> u8
     ensures { result ≡ temp e t }
 {
-    if e.kind == 5 { e.last } else { t }
+    match Kind::of(e.kind) {
+        Some(Kind::SetWithTemp) => e.last,
+        _ => t,
+    }
 }
 
 // What is answered by an add or take that fails, where its cell holds `v`.
@@ -43,23 +42,25 @@ fn failed_at(v: u8) -> u16
 }
 
 // What is answered by the value `v` of the operation's cell: the response of every kind but 6.
+#[tactic(auto, unfolding(operation::specs::Operation::value_response))]
 pub fn value_response(e: Operation, v: u8) -> u16
     ensures { result ≡ value_response e v }
 {
-    let kind = e.kind;
     let amount = e.amount;
-    if kind == 1 {
-        if v as u32 + amount as u32 <= 255 {
-            1
-        } else {
-            failed_at(v)
+    let Some(kind) = Kind::of(e.kind) else {
+        return 1;
+    };
+    match kind {
+        Kind::Add => {
+            if v as u32 + amount as u32 <= 255 {
+                1
+            } else {
+                failed_at(v)
+            }
         }
-    } else if kind == 2 {
-        if amount <= v { 1 } else { failed_at(v) }
-    } else if kind == 3 {
-        v as u16
-    } else {
-        1
+        Kind::Take => { if amount <= v { 1 } else { failed_at(v) } }
+        Kind::Read => v as u16,
+        Kind::Set | Kind::SetWithTemp | Kind::ReadTemp => 1,
     }
 }
 
@@ -76,10 +77,9 @@ pub fn signed_of(b: u8) -> Response
 fn response_to(e: Operation, v: u8, t: u8) -> Response
     ensures { result ≡ response e v t }
 {
-    if e.kind == 6 {
-        signed_of(t)
-    } else {
-        value_response(e, v) as i16
+    match Kind::of(e.kind) {
+        Some(Kind::ReadTemp) => signed_of(t),
+        _ => value_response(e, v) as i16,
     }
 }
 
@@ -87,8 +87,7 @@ fn response_to(e: Operation, v: u8, t: u8) -> Response
 fn number_at(s: [u8; operation::CELL_COUNT], i: u8) -> u8
     ensures { result ≡ number_at s i }
 {
-    let k = i as usize;
-    if k < operation::CELL_COUNT { s[k] } else { 0 }
+    s.get(i as usize).copied().unwrap_or(0)
 }
 
 // The numbers with `x` at `i`, and as they are where there is no such place.
@@ -109,8 +108,7 @@ fn with_number(s: [u8; operation::CELL_COUNT], i: u8, x: u8) -> [u8; operation::
 pub fn run_on(e: Operation, cells: Cells) -> Cells
     ensures { result ≡ after e cells }
 {
-    let values = cells.values;
-    let temps = cells.temps;
+    let Cells { values, temps } = cells;
     let k = e.cell;
     let v = value_after(e, number_at(values, k));
     let t = temp_after(e, number_at(temps, k));
@@ -126,9 +124,11 @@ pub fn run_on(e: Operation, cells: Cells) -> Cells
 pub fn response_on(e: Operation, cells: Cells) -> Response
     ensures { result ≡ response_on e cells }
 {
-    let values = cells.values;
-    let temps = cells.temps;
-    response_to(e, number_at(values, e.cell), number_at(temps, e.cell))
+    response_to(
+        e,
+        number_at(cells.values, e.cell),
+        number_at(cells.temps, e.cell),
+    )
 }
 
 // The cells after an operation with its status: an aborted one changes nothing.
@@ -139,18 +139,13 @@ pub fn effect_on(success: bool, e: Operation, cells: Cells) -> Cells
     if success { run_on(e, cells) } else { cells }
 }
 
-// The cells after the first `n` of the operations.
-pub fn run_all(es: [Operation; operation::MAX_PENDING], n: usize, cells: Cells) -> Cells
-    requires { n ≤ max_pending }
-    ensures { result ≡ run_all (take n es) cells }
+// The cells after the operations.
+pub fn run_all(es: &[Operation], cells: Cells) -> Cells
+    ensures { result ≡ run_all es.now cells }
 {
-    let mut t = cells;
-    let mut k = 0;
-    while k < n {
-        let e = es[k];
-        let u = run_on(e, t);
-        t = u;
-        k += 1;
+    let mut after = cells;
+    for e in es {
+        after = run_on(*e, after);
     }
-    t
+    after
 }

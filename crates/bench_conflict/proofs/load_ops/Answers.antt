@@ -1,4 +1,4 @@
-use Prim.Native.Nat.{ℕ, ◌<◌, ◌-◌, ◌+◌, ◌*◌}
+use Prim.Native.Nat.{ℕ, ◌<◌, ◌+◌, ◌*◌}
 use mathlib.Core.Path.{◌≡◌, sym, ap, ◌∙◌}
 use native.Mathlib.Omega.{arith}
 use borrow.Author.Rules.{rules}
@@ -22,10 +22,10 @@ loop-i-init c = search rules
 pub loop-i-preserved : goal.loop-i-preserved
 loop-i-preserved c =
     let l = c.loop-i in
-    (omega arith, simp length-set l.invariant.1, more c.args.s.now l.ops l.i c.read_op-e.result (omega arith) l.invariant.2 c.read_op-e.ensures)
+    (simp length-set l.invariant.0, more c.args.s.now l.ops l.i c.read_op.result (omega (arith, l.invariant.0)) l.invariant.1 c.read_op.ensures)
 
 pub returns : goal.returns
 returns c =
     let l = c.loop-i in
     let e : l.i ≡ 32 = omega arith in
-    sym (take_all l.i l.ops (omega arith)) ∙ l.invariant.2 ∙ ap (ops_at c.args.s.now) e
+    sym (take_all l.i l.ops (omega (arith, l.invariant.0))) ∙ l.invariant.1 ∙ ap (ops_at c.args.s.now) e

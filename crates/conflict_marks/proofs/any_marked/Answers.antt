@@ -1,5 +1,5 @@
 -- Whether one of the first k places from `at` on is marked.
-use Prim.Native.Nat.{ℕ, ◌<◌, ◌-◌, ◌+◌}
+use Prim.Native.Nat.{ℕ, ◌<◌, ◌+◌}
 use mathlib.Core.Path.{◌≡◌, refl, sym, ◌∙◌}
 use mathlib.Core.Bool.{Bool, true, false, ◌||◌}
 use mathlib.Core.List.{List}
@@ -19,16 +19,15 @@ seen_more p at k false s m q = record { only = λ e. (k, omega arith, q ∙ e); 
     last i l o (no n) = absurd (clash refl (s.all i (omega arith) o))
 
 pub loop-k-init : goal.loop-k-init
-loop-k-init c = (omega arith, record { only = λ e. absurd (clash refl e); all = λ i l. absurd (omega arith) })
+loop-k-init c = record { only = λ e. absurd (clash refl e); all = λ i l. absurd (omega arith) }
 
 pub loop-k-preserved : goal.loop-k-preserved
 loop-k-preserved c =
     let l = c.loop-k in
     let a = c.args in
-    (omega arith, seen_more a.wide.now a.at l.k l.found l.invariant.1 (get_or a.wide.now (a.at + l.k) false) refl)
+    seen_more a.wide.now a.at l.k l.found l.invariant (get_or a.wide.now (a.at + l.k) false) refl
 
 pub returns : goal.returns
 returns c =
     let l = c.loop-k in
-    let e : l.k ≡ 256 = omega arith in
-    (λ q. let r = l.invariant.1.only q in (r.0, omega (arith, r.1), r.2), λ (i, h, o). l.invariant.1.all i (omega (arith, h)) o)
+    (λ q. let r = l.invariant.only q in (r.0, omega (arith, r.1), r.2), λ (i, h, o). l.invariant.all i (omega (arith, h)) o)

@@ -1,22 +1,16 @@
-use Prim.Native.Nat.{◌+◌, ◌-◌, ◌<◌}
-use mathlib.Core.Path.{refl, ◌∙◌, sym, ap}
-use mathlib.Core.Bool.{Bool, ◌&&◌}
-use borrow.Author.Rules.{rules}
-use lib.ListN.{length, drop}
+use Rattle.std.proofs.Common.{ℕ, Bool, List, [], ◌∷◌, ◌≡◌, ◌∙◌, ◌&&◌, refl, ap, rules, tests}
+use Rattle.std.specs.List.{list_all}
+use Rattle.std.proofs.lemmas.Iterator.{YieldsList-from_slice}
+use Rattle.std.proofs.lemmas.Iterator.Search.{all_from_yields_List}
 use Rattle.slices.specs.Bytes.{all}
-use Rattle.slices.proofs.Laws.{all_more, all_done}
 use Rattle.operation.specs.Operation.{temp_ok}
 use Rattle.operation.proofs.temps_ok.Goals as goal
 
-pub loop-i-init : goal.loop-i-init
-loop-i-init c = refl
-
-pub loop-i-preserved : goal.loop-i-preserved
-loop-i-preserved c =
-    let l = c.loop-i in
-    let s = c.args.s in
-    let h : l.i < length s = search rules in
-    l.invariant ∙ all_more temp_ok s l.i l.ok h ∙ ap (λ (b : Bool). l.ok && b && all temp_ok (drop (l.i + 1) s)) (sym c.temp_ok-ok.ensures)
+list_all_is : (p : ℕ → Bool) (s : List ℕ) → list_all p s ≡ all p s
+unfolding all
+list_all_is p [] = refl
+list_all_is p (x ∷ s) = ap (λ b. p x && b) (list_all_is p s)
 
 pub returns : goal.returns
-returns c = sym (c.loop-i.invariant ∙ all_done temp_ok c.args.s c.loop-i.i _ (search rules))
+returns c =
+    all_from_yields_List temp_ok _ _ _ c.all.ensures.ran (YieldsList-from_slice c.args.s cc) (λ x b q k. search (rules, tests)) ∙ list_all_is temp_ok c.args.s

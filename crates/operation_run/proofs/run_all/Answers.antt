@@ -1,22 +1,14 @@
-use borrow.Author.Rules.{rules}
+use Rattle.std.proofs.Common.{refl, sym, ◌∙◌, get_or, take}
 use Rattle.operation.specs.Operation.{no_op, run_all}
-use mathlib.Core.Path.{◌≡◌, refl, sym, ◌∙◌}
-use Prim.Native.Nat.{◌-◌, ◌<◌}
-use lib.ListN.{length, take, get_or}
-use native.Mathlib.Omega.{arith}
 use Rattle.operation.proofs.Laws.{run_more, take_more}
 use Rattle.operation_run.proofs.run_all.Goals as goal
 
-pub loop-k-init : goal.loop-k-init
+pub loop-e-init : goal.loop-e-init
 unfolding run_all
-loop-k-init c = (refl, search rules)
+loop-e-init c = refl
 
-pub loop-k-preserved : goal.loop-k-preserved
-loop-k-preserved c =
-    let a = c.args in
-    let k = c.loop-k.k in
-    let h : k < length a.es = search rules in
-    (c.run_on-u.ensures ∙ rw (c.loop-k.invariant.0, take_more a.es k h) (sym (run_more (take k a.es) (get_or a.es k no_op) a.cells)), search rules)
-
-pub returns : goal.returns
-returns c = let e : c.loop-k.k ≡ c.args.n = omega arith in c.loop-k.invariant.0 ∙ rw e
+pub loop-e-preserved : goal.loop-e-preserved
+loop-e-preserved c =
+    let es = c.args.es.now in
+    let k = c.loop-e.e-index in
+    c.run_on-after.ensures ∙ rw (c.loop-e.invariant, take_more es k c.loop-e-test.true) (sym (run_more (take k es) (get_or es k no_op) c.args.cells))
