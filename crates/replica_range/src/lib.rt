@@ -35,18 +35,14 @@ fn arrays_ok(r: &Replica) -> bool
 pub fn in_range(r: &Replica) -> bool
     ensures { result ≡ in_range r.now }
 {
-    numbers_ok(r)
-        & (replica::no_current(r.current) | operation::op_ok(r.current))
-        & arrays_ok(r)
+    numbers_ok(r) & (replica::no_current(r.current) | operation::op_ok(r.current)) & arrays_ok(r)
 }
 
 // Checks 8 and 3, which every call on a replica asks first.
 pub fn ready(r: &Replica) -> Result<(), Stop>
     ensures { no_of result ≡ first_no 0 (ready_checks r.now) }
 {
-    let ranged = checks::ask(in_range(r), Refusal::Range);
-    let clear = checks::ask(r.halt == 0, Refusal::HaltMark);
-    ranged?;
-    clear?;
+    checks::ask(in_range(r), Refusal::Range)?;
+    checks::ask(r.halt == 0, Refusal::HaltMark)?;
     Ok(())
 }
