@@ -40,15 +40,16 @@ unfolding items_checks
 items_more r m k = rw add-one (sym (first_append 0 (items_checks r m k) (item_checks r (reply_count m) k (reply_item m k))))
 
 -- what stops one item stops all
-items_stay : (r : Replica) (m : List ℕ) (k j : ℕ) → eqb (first_no 0 (items_checks r m k)) 0 ≡ false
-    → first_no 0 (items_checks r m (j + k)) ≡ first_no 0 (items_checks r m k)
+items_stay : (r : Replica) (m : List ℕ) (k j n : ℕ) → n ≡ j + k → eqb (first_no 0 (items_checks r m k)) 0 ≡ false
+    → first_no 0 (items_checks r m n) ≡ first_no 0 (items_checks r m k)
 unfolding items_checks
-items_stay r m k zero e = refl
-items_stay r m k (suc j) e =
-    let h = items_stay r m k j e in
+items_stay r m k zero n p e = let q : n ≡ k = omega arith in ap (λ (x : ℕ). first_no 0 (items_checks r m x)) q
+items_stay r m k (suc j) n p e =
+    let q : n ≡ suc (j + k) = omega arith in
+    let h = items_stay r m k j (j + k) refl e in
     let c = item_checks r (reply_count m) (j + k) (reply_item m (j + k)) in
-    let n = first_no 0 (items_checks r m (j + k)) in
-    first_append 0 (items_checks r m (j + k)) c ∙ first_stays n c (rw h e) ∙ h
+    let x = first_no 0 (items_checks r m (j + k)) in
+    ap (λ (x : ℕ). first_no 0 (items_checks r m x)) q ∙ first_append 0 (items_checks r m (j + k)) c ∙ first_stays x c (rw h e) ∙ h
 
 -- item k, where no item before it stops
 module _ (r : Replica) (m : List ℕ) (n : ℕ) (e : n ≡ reply_count m) (k : ℕ) (i : Item) (f : i ≡ reply_item m k)
@@ -62,8 +63,8 @@ module _ (r : Replica) (m : List ℕ) (n : ℕ) (e : n ≡ reply_count m) (k : �
 
   pub item_stops : eqb (first_no 0 (item_checks r n k i)) 0 ≡ false → k + 1 ≤ n → first_no 0 (item_checks r n k i) ≡ first_no 0 (items_checks r m n)
   item_stops h g =
-      let p : n - (k + 1) + (k + 1) ≡ n = omega arith in
-      one_more ∙ sym (items_stay r m (k + 1) (n - (k + 1)) (rw (sym one_more) h)) ∙ ap (λ (x : ℕ). first_no 0 (items_checks r m x)) p
+      let p : n ≡ n - (k + 1) + (k + 1) = omega arith in
+      one_more ∙ sym (items_stay r m (k + 1) (n - (k + 1)) n p (rw (sym one_more) h))
 
 -- ---- the last item
 module _ (r : Replica) (m : List ℕ) (n : ℕ) (e : n ≡ reply_count m) where
