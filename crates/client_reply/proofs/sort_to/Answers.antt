@@ -1,5 +1,4 @@
 use native.Mathlib.Omega.{arith}
-use borrow.Author.Rules.{rules}
 use Rattle.client_reply.specs.Reply.{sort_to}
 use Rattle.client_reply.proofs.Laws.{sort_own, sort_skip, sort_other}
 use Rattle.client_reply.proofs.sort_to.Goals as goal
