@@ -1,5 +1,5 @@
 -- Checks in order: document 01, "The questions, in order".
-use Rattle.std.specs.Prelude.{ℕ, zero, suc, List, [], ◌∷◌, Bool, cond, ◌&&◌}
+use Rattle.std.specs.Prelude.{ℕ, zero, suc, List, [], ◌∷◌, Bool, true, false, cond, ◌&&◌, Result, Ok, Err}
 
 -- whether each of the tests is a yes, after those so far
 abbrev pub every : Bool → List Bool → Bool
@@ -16,3 +16,8 @@ also_no (suc n) q = suc n
 abbrev pub first_no : ℕ → List (Bool × ℕ) → ℕ
 first_no n [] = n
 first_no n (q ∷ qs) = first_no (also_no n q) qs
+
+-- one check asked: go on, or stop with the reason of its no
+abbrev pub asked : {E : Type 0} → Bool → E → Result Unit E
+asked true e = Ok (record {})
+asked false e = Err e

@@ -2,7 +2,7 @@
 #![tactic(auto)]
 
 ghost use Rattle.std.specs.Prelude.{◌≡◌};
-ghost use Rattle.checks.specs.Checks.{also_no};
+ghost use Rattle.checks.specs.Checks.{also_no, asked};
 
 // One more check after those so far: the first no stays.
 pub fn also(so_far: u8, yes: bool, number: u8) -> u8
@@ -13,4 +13,11 @@ pub fn also(so_far: u8, yes: bool, number: u8) -> u8
     } else {
         so_far
     }
+}
+
+// One check: goes on after a yes, stops with `no` after a no.
+pub fn ask<E: Copy>(yes: bool, no: E) -> Result<(), E>
+    ensures { result ≡ asked yes no }
+{
+    if yes { Ok(()) } else { Err(no) }
 }

@@ -14,26 +14,27 @@ use message::{Commit, Item};
 use replica::{Event, Replica};
 
 // The value of item `k` held in the chain, where it is not yet.
-fn chain_item(c: u32, held: u32, k: usize, i: Item, chain: &mut [u8; replica::CHAIN_LENGTH])
-    requires { (k < max_pending) × (c ≤ max_seq) }
-    ensures { chain.new ≡ chain_item c held k i chain.old }
+#[tactic(auto, unfolding(client_reply::specs::Reply::chain_item))]
+fn chain_item(r: &Replica, k: usize, i: Item, chain: &mut [u8; replica::CHAIN_LENGTH])
+    requires { (k < max_pending) × (r.now.confirmed ≤ max_seq) }
+    ensures { chain.new ≡ chain_item r.now.confirmed r.now.held k i chain.old }
 {
-    if held as usize <= k {
-        let v = client_reply_check::item_value(c, k, i, chain);
+    if r.held as usize <= k {
+        let v = client_reply_check::item_value(r.confirmed, k, i, chain);
         slices::copy_to(chain, (k + 1) * message::DIGEST_LENGTH, &v);
     }
 }
 
-pub fn chain_to(c: u32, held: u32, m: &[u8], chain: &mut [u8; replica::CHAIN_LENGTH], n: usize)
-    requires { (n ≤ max_pending) × (c ≤ max_seq) × (reply_head + n * item_length ≤ length m.now) }
-    ensures { chain.new ≡ chain_to c held m.now chain.old n }
+// The chain with the values of the first `n` items.
+pub fn chain_to(r: &Replica, m: &[u8], n: usize) -> [u8; replica::CHAIN_LENGTH]
+    requires { (n ≤ max_pending) × (r.now.confirmed ≤ max_seq) × (reply_head + n * item_length ≤ length m.now) }
+    ensures { result ≡ chain_to r.now.confirmed r.now.held m.now r.now.chain n }
 {
-    let mut k = 0;
-    while k < n {
-        let i = message::item_of(m, k);
-        chain_item(c, held, k, i, chain);
-        k += 1;
+    let mut chain = r.chain;
+    for k in 0..n {
+        chain_item(r, k, message::item_of(m, k), &mut chain);
     }
+    chain
 }
 
 fn held_status(aborted: bool) -> u8
@@ -48,12 +49,6 @@ fn status_of(aborted: bool) -> u8
     if aborted { 0 } else { 1 }
 }
 
-fn larger_of(a: u32, b: u32) -> u32
-    ensures { result ≡ larger a b }
-{
-    if a < b { b } else { a }
-}
-
 pub fn replied_replica(
     r: Replica,
     chain: [u8; replica::CHAIN_LENGTH],
@@ -63,48 +58,50 @@ pub fn replied_replica(
     requires { (1 ≤ n) × (n ≤ max_pending) }
     ensures { result ≡ replied_replica r chain n «aborted» }
 {
-    let k = n as usize - 1;
-    let none = operation::no_op();
-    let mut b = r;
-    b.current = none;
-    b.held = larger_of(r.held, n as u32);
-    b.chain = chain;
-    b.statuses[k] = held_status(aborted);
-    b
+    let mut statuses = r.statuses;
+    statuses[n as usize - 1] = held_status(aborted);
+    Replica {
+        current: operation::no_op(),
+        held: r.held.max(n as u32),
+        chain,
+        statuses,
+        ..r
+    }
 }
 
 pub fn says(v: Verdict, seq: u32) -> Event
     ensures { event_told result ≡ says_of v.aborted v.response seq }
 {
-    let response = v.response;
     if v.aborted {
         Event::Aborted { seq }
     } else {
-        Event::Responded { seq, response }
+        Event::Responded {
+            seq,
+            response: v.response,
+        }
     }
 }
 
 // Writes the commit; the client's tags start from `own`.
 pub fn write_own_commit(
-    r: Replica,
+    r: &Replica,
     own: Keyed,
     chain: &[u8; replica::CHAIN_LENGTH],
     n: u8,
     aborted: bool,
     out: &mut [u8],
 )
-    requires { (n ≤ max_pending) × (r.confirmed ≤ max_seq) × StateOf r.keys r.number own × (commit_length ≤ length out.old) }
-    ensures { out.new ≡ commit_message r chain.now n «aborted» ++ drop commit_length out.old }
+    requires { (n ≤ max_pending) × (r.now.confirmed ≤ max_seq) × StateOf r.now.keys r.now.number own × (commit_length ≤ length out.old) }
+    ensures { out.new ≡ commit_message r.now chain.now n «aborted» ++ drop commit_length out.old }
 {
-    let current = r.current;
     let seq = r.confirmed + n as u32;
     let status = status_of(aborted);
     let digest = replica::value_at(r.confirmed, n as usize, chain);
-    let tag = verify::commit_tag_by(own, current, r.number, seq, digest, status);
+    let tag = verify::commit_tag_by(own, r.current, r.number, seq, digest, status);
     message_write::write_commit(
         out,
         Commit {
-            op: current,
+            op: r.current,
             author: r.number,
             seq,
             digest,

@@ -31,49 +31,33 @@ fn status_shift(s: [u8; operation::MAX_PENDING]) -> [u8; operation::MAX_PENDING]
     t
 }
 
-fn less_one(n: u32) -> u32
-    ensures { result ≡ n - 1 }
-{
-    if n == 0 { 0 } else { n - 1 }
-}
-
 // The state after a broadcast whose digest is the next chain value.
 fn confirmed_replica(r: Replica, k: Commit) -> Replica
     requires { (r.confirmed < max_seq) × (digest_ok r k ≡ true) }
     ensures { result ≡ confirmed_replica r k }
 {
-    let e = k.op;
-    let next = k.digest;
-    let old_chain = r.chain;
-    let old_statuses = r.statuses;
-    let old_cells = r.cells;
-    let chain = chain_shift(old_chain, next);
-    let statuses = status_shift(old_statuses);
-    let cells = operation_run::effect_on(k.status == 1, e, old_cells);
-    let mut n = r;
-    n.confirmed = r.confirmed + 1;
-    n.held = less_one(r.held);
-    n.chain = chain;
-    n.statuses = statuses;
-    n.cells = cells;
-    n
+    Replica {
+        confirmed: r.confirmed + 1,
+        held: r.held.saturating_sub(1),
+        chain: chain_shift(r.chain, k.digest),
+        statuses: status_shift(r.statuses),
+        cells: operation_run::effect_on(k.status == 1, k.op, r.cells),
+        ..r
+    }
 }
 
 // Takes a broadcast (document 01: `BR`).
 pub fn broadcast(r: Replica, m: &[u8]) -> Stepped
     ensures { after_of result ≡ broadcast_step r m.now }
 {
-    let no = client_broadcast::broadcast_check(r, m);
-    if no != 0 {
-        return replica::stopped(r, no);
-    }
-    let k = message::commit_of(m);
-    let after = confirmed_replica(r, k);
-    Stepped {
-        replica: after,
-        outcome: Outcome::Success(Event::Confirmed {
-            seq: k.seq,
-            status: k.status,
-        }),
+    match client_broadcast::broadcast_check(&r, m) {
+        Ok(k) => Stepped {
+            replica: confirmed_replica(r, k),
+            outcome: Outcome::Success(Event::Confirmed {
+                seq: k.seq,
+                status: k.status,
+            }),
+        },
+        Err(why) => replica::stopped(r, why),
     }
 }

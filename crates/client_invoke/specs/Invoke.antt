@@ -8,7 +8,7 @@ use Rattle.verify.specs.Verify.{invoke_tag}
 use Rattle.replica.specs.declared.Replica.{Replica}
 use Rattle.replica.specs.Outcome.{invoked}
 use Rattle.checks.specs.Checks.{first_no}
-use Rattle.replica.specs.Replica.{After, Step, stop_step, no_current, ready_checks}
+use Rattle.replica.specs.Replica.{Step, stop_step, no_current, ready_checks}
 
 -- after 8 and 3: "no entry in hand? 4. Kind, cell, amount allowed? 5." ("Making takes the last byte too", document 02, Q-2) "Own count below 1,000,000? 6. 43 bytes lent? 7."
 abbrev pub invoke_checks : Replica → ℕ → ℕ → ℕ → ℕ → ℕ → List (Bool × ℕ)

@@ -13,19 +13,19 @@ use replica::{Event, Outcome, Replica, Stepped};
 fn invoked_replica(r: Replica, e: Operation) -> Replica
     ensures { result ≡ invoked_replica r e }
 {
-    let mut n = r;
-    n.count = e.count;
-    n.current = e;
-    n
+    Replica {
+        count: e.count,
+        current: e,
+        ..r
+    }
 }
 
 // Writes the invoke of an operation.
-fn write_own_invoke(r: Replica, e: Operation, out: &mut [u8])
-    requires { (1 ≤ r.number) × (r.number ≤ client_count) × (invoke_length ≤ length out.old) }
-    ensures { out.new ≡ invoke_message r e ++ drop invoke_length out.old }
+fn write_own_invoke(r: &Replica, e: Operation, out: &mut [u8])
+    requires { (1 ≤ r.now.number) × (r.now.number ≤ client_count) × (invoke_length ≤ length out.old) }
+    ensures { out.new ≡ invoke_message r.now e ++ drop invoke_length out.old }
 {
-    let keys = r.keys;
-    let tag = verify::invoke_tag(keys, e, r.number);
+    let tag = verify::invoke_tag(&r.keys, e, r.number);
     message_write::write_invoke(
         out,
         Item {
@@ -41,22 +41,19 @@ pub fn invoke(r: Replica, kind: u8, cell: u8, amount: u8, last: u8, out: &mut [u
     ensures { (after_of result ≡ (invoke_step r kind cell amount last (length out.old)).after)
         × (out.new ≡ over (invoke_step r kind cell amount last (length out.old)).wrote out.old) }
 {
-    let no = client_invoke::invoke_check(r, kind, cell, amount, last, out.len());
-    if no != 0 {
-        return replica::stopped(r, no);
+    if let Err(why) = client_invoke::invoke_check(&r, kind, cell, amount, last, out.len()) {
+        return replica::stopped(r, why);
     }
-    let count = r.count + 1;
     let e = Operation {
-        count,
+        count: r.count + 1,
         kind,
         cell,
         amount,
         last,
     };
-    write_own_invoke(r, e, out);
-    let after = invoked_replica(r, e);
+    write_own_invoke(&r, e, out);
     Stepped {
-        replica: after,
+        replica: invoked_replica(r, e),
         outcome: Outcome::Success(Event::Invoked(e.count)),
     }
 }

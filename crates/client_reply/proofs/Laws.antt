@@ -20,7 +20,6 @@ use Rattle.replica.specs.declared.Replica.{Replica}
 use Rattle.replica.specs.Places.{value_at, status_at}
 use Rattle.replica.specs.Replica.{Step, over, stop}
 use Rattle.client_reply_check.specs.ReplyChecks.{reply_no}
-use Rattle.client_reply.specs.Lists.{firsts}
 use Rattle.client_reply.specs.Reply.{chain_after, Sorted, sort_item, sort_to, is_aborted, last_response, last_seq, says_of, status, replied_replica, commit_message, reply_success, reply_step}
 
 -- ---- the two lists
@@ -30,20 +29,20 @@ take_set_more l i e h = rw add-one (take-suc-set l i e h)
 
 -- item k put into its list
 module _ (c number : ℕ) (statuses m : List ℕ) (k : ℕ) (i : Item) (e : i ≡ reply_item m k)
-    (others own : List Operation) (p q : ℕ) (f : firsts others p own q ≡ sort_to c number statuses m k) where
-  pub sort_own : i.author ≡ number → status_at c k statuses ≡ 1 → q < length own
-      → firsts others p (set own q i.op) (q + 1) ≡ sort_to c number statuses m (k + 1)
+    (others own : List Operation) (f : record { others = others; own = own } ≡ sort_to c number statuses m k) where
+  pub sort_own : i.author ≡ number → status_at c k statuses ≡ 1
+      → record { others = others; own = own ++ (i.op ∷ []) } ≡ sort_to c number statuses m (k + 1)
   unfolding sort_to sort_item
-  sort_own a d h = rw (take_set_more own q i.op h, add-one k, ← f, ← e, eq-eqb _ _ a, eq-eqb _ _ d)
+  sort_own a d = rw (add-one k, ← f, ← e, eq-eqb _ _ a, eq-eqb _ _ d)
 
-  pub sort_skip : i.author ≡ number → (status_at c k statuses ≡ 1 → ⊥) → firsts others p own q ≡ sort_to c number statuses m (k + 1)
+  pub sort_skip : i.author ≡ number → (status_at c k statuses ≡ 1 → ⊥)
+      → record { others = others; own = own } ≡ sort_to c number statuses m (k + 1)
   unfolding sort_to sort_item
   sort_skip a d = rw (add-one k, ← f, ← e, eq-eqb _ _ a, ne_eqb _ _ d)
 
-  pub sort_other : (i.author ≡ number → ⊥) → p < length others
-      → firsts (set others p i.op) (p + 1) own q ≡ sort_to c number statuses m (k + 1)
+  pub sort_other : (i.author ≡ number → ⊥) → record { others = others ++ (i.op ∷ []); own = own } ≡ sort_to c number statuses m (k + 1)
   unfolding sort_to sort_item
-  sort_other a h = rw (take_set_more others p i.op h, add-one k, ← f, ← e, ne_eqb _ _ a)
+  sort_other a = rw (add-one k, ← f, ← e, ne_eqb _ _ a)
 
 -- ---- the verdict
 module _ (r : Replica) (m : List ℕ) (n : ℕ) (e : n ≡ reply_count m) (s : Sorted) (f : s ≡ sort_to r.confirmed r.number r.statuses m (n - 1)) where

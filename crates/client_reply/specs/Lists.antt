@@ -1,19 +1,18 @@
 -- Internal: the code's two lists as the definitions have them.
-use Rattle.std.specs.Prelude.{ℕ, ◌≤◌, ◌≡◌, List, length, take}
+use Rattle.std.specs.Prelude.{ℕ, ◌≤◌, List, take}
 use Rattle.operation.specs.declared.Operation.{Operation}
-use Rattle.operation.specs.Operation.{max_pending}
+use Rattle.client_reply.specs.declared.Operations.{Operations}
 use Rattle.client_reply.specs.declared.Lists.{Lists}
 use Rattle.client_reply.specs.Reply.{Sorted}
 
--- the first n of `others` and the first m of `own`
-abbrev pub firsts : List Operation → ℕ → List Operation → ℕ → Sorted
-firsts others n own m = record { others = take n others; own = take m own }
+-- the first n of `all`
+abbrev pub firsts : Operations → List Operation
+firsts l = take l.n l.all
 
 abbrev pub lists : Lists → Sorted
-lists l = firsts l.others l.n l.own l.m
+lists l = record { others = firsts l.others; own = firsts l.own }
 
--- the lists hold at most k operations each, and `own` has all its places
+-- both of at most k
 pub record Full (l : Lists) (k : ℕ) : Type 0 where
-  pub n : l.n ≤ k
-  pub m : l.m ≤ k
-  pub own : length l.own ≡ max_pending
+  pub others : l.others.n ≤ k
+  pub own : l.own.n ≤ k

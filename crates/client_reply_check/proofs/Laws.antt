@@ -18,7 +18,7 @@ use Rattle.checks.proofs.Laws.{first_stays, first_append, first_zero, all_yes, A
 use Rattle.replica.specs.Outcome.{is_stop}
 use Rattle.replica.specs.Replica.{in_range}
 use Rattle.replica.proofs.Laws.{ranged}
-use Rattle.client_reply_check.specs.ReplyChecks.{seq_at, listed_ok, item_rest_checks, item_checks, items_checks, last_item, last_ok, reply_form_checks, last_checks, reply_no}
+use Rattle.client_reply_check.specs.ReplyChecks.{seq_at, listed_ok, item_checks, items_checks, last_item, last_ok, reply_form_checks, last_checks, reply_no}
 
 -- ---- an item's checks
 pub record ItemAllowed (c k : ℕ) (i : Item) : Type 0 where
@@ -33,18 +33,38 @@ item_allowed c k i e =
     let y = (every_yes true (op_ok i.op ∷ leb 1 i.author ∷ leb i.author 8 ∷ leb (seq_at c k) 1000000 ∷ []) e).1 in
     record { op = y.0; low = leb-true _ _ y.1.0; high = leb-true _ _ y.1.1.0; seq = leb-true _ _ y.1.1.1.0 }
 
-module _ (r : Replica) (n k : ℕ) (i : Item) where
-  pub item_goes : listed_ok r.confirmed k i ≡ true → first_no 0 (item_rest_checks r n k i) ≡ first_no 0 (item_checks r n k i)
-  item_goes e = rw e
-
-  pub item_stops : listed_ok r.confirmed k i ≡ false → 21 ≡ first_no 0 (item_checks r n k i)
-  item_stops e = rw e
-
 -- one item more
 pub items_more : (r : Replica) (m : List ℕ) (k : ℕ)
     → first_no (first_no 0 (items_checks r m k)) (item_checks r (reply_count m) k (reply_item m k)) ≡ first_no 0 (items_checks r m (k + 1))
 unfolding items_checks
 items_more r m k = rw add-one (sym (first_append 0 (items_checks r m k) (item_checks r (reply_count m) k (reply_item m k))))
+
+-- what stops one item stops all
+items_stay : (r : Replica) (m : List ℕ) (k j n : ℕ) → n ≡ j + k → eqb (first_no 0 (items_checks r m k)) 0 ≡ false
+    → first_no 0 (items_checks r m n) ≡ first_no 0 (items_checks r m k)
+unfolding items_checks
+items_stay r m k zero n p e = let q : n ≡ k = omega arith in ap (λ (x : ℕ). first_no 0 (items_checks r m x)) q
+items_stay r m k (suc j) n p e =
+    let q : n ≡ suc (j + k) = omega arith in
+    let h = items_stay r m k j (j + k) refl e in
+    let c = item_checks r (reply_count m) (j + k) (reply_item m (j + k)) in
+    let x = first_no 0 (items_checks r m (j + k)) in
+    ap (λ (x : ℕ). first_no 0 (items_checks r m x)) q ∙ first_append 0 (items_checks r m (j + k)) c ∙ first_stays x c (rw h e) ∙ h
+
+-- item k, where no item before it stops
+module _ (r : Replica) (m : List ℕ) (n : ℕ) (e : n ≡ reply_count m) (k : ℕ) (i : Item) (f : i ≡ reply_item m k)
+    (z : first_no 0 (items_checks r m k) ≡ 0) where
+  one_more : first_no 0 (item_checks r n k i) ≡ first_no 0 (items_checks r m (k + 1))
+  one_more =
+      rw (e, f) (ap (λ (x : ℕ). first_no x (item_checks r (reply_count m) k (reply_item m k))) (sym z) ∙ items_more r m k)
+
+  pub item_goes : first_no 0 (item_checks r n k i) ≡ 0 → first_no 0 (items_checks r m (k + 1)) ≡ 0
+  item_goes h = sym one_more ∙ h
+
+  pub item_stops : eqb (first_no 0 (item_checks r n k i)) 0 ≡ false → k + 1 ≤ n → first_no 0 (item_checks r n k i) ≡ first_no 0 (items_checks r m n)
+  item_stops h g =
+      let p : n ≡ n - (k + 1) + (k + 1) = omega arith in
+      one_more ∙ sym (items_stay r m (k + 1) (n - (k + 1)) n p (rw (sym one_more) h))
 
 -- ---- the last item
 module _ (r : Replica) (m : List ℕ) (n : ℕ) (e : n ≡ reply_count m) where

@@ -1,2 +1,1 @@
 pub mod ReplyChecks
-pub mod Parts

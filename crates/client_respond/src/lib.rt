@@ -12,20 +12,16 @@ pub fn reply(r: Replica, m: &[u8], out: &mut [u8]) -> Stepped
     ensures { (after_of result ≡ (reply_step r m.now (length out.old)).after)
         × (out.new ≡ over (reply_step r m.now (length out.old)).wrote out.old) }
 {
-    let q = client_reply_items::reply_check(r, m, out.len());
-    let no = q.no;
-    if no != 0 {
-        return replica::stopped(r, no);
-    }
+    let own = match client_reply_items::reply_check(&r, m, out.len()) {
+        Ok(own) => own,
+        Err(why) => return replica::stopped(r, why),
+    };
     let n = m[message::COUNT_OFFSET];
-    let mut chain = r.chain;
-    let v = client_reply::decide(r, m, n as usize);
-    client_commit::chain_to(r.confirmed, r.held, m, &mut chain, n as usize);
-    let own = q.own;
-    client_commit::write_own_commit(r, own, &chain, n, v.aborted, out);
-    let after = client_commit::replied_replica(r, chain, n, v.aborted);
+    let v = client_reply::decide(&r, m, n as usize);
+    let chain = client_commit::chain_to(&r, m, n as usize);
+    client_commit::write_own_commit(&r, own, &chain, n, v.aborted, out);
     Stepped {
-        replica: after,
+        replica: client_commit::replied_replica(r, chain, n, v.aborted),
         outcome: Outcome::Success(client_commit::says(v, r.confirmed + n as u32)),
     }
 }

@@ -2,10 +2,9 @@
 use Prim.Native.Nat.{ℕ, ◌+◌, ◌<◌, ◌≤◌}
 use mathlib.Core.Path.{◌≡◌, refl}
 use mathlib.Core.List.{[], ◌∷◌}
-use mathlib.Core.Bool.{true, false, ◌&&◌, ◌||◌, and-false, or-true}
+use mathlib.Core.Bool.{true, false, ◌&&◌, ◌||◌, or-true}
 use lib.Dec.{leb, eqb}
 use lib.ListN.{length}
-use native.Mathlib.Omega.{arith}
 use borrow.Author.Tests.{leb-true, le-leb, lt-leb}
 use Rattle.checks.proofs.Laws.{and_yes, cond_cases, every_yes}
 use Rattle.operation.specs.Operation.{op_ok, temps_ok}

@@ -5,7 +5,7 @@ use mathlib.Core.List.{List, [], ◌∷◌, ◌++◌, append_assoc}
 use mathlib.Core.Bool.{true}
 use lib.Dec.{leb}
 use lib.ListN.{length, get_or, take, drop, replicate, length-append, length-drop, length-take, length-replicate, length-set}
-use lib.Seq.{drop-append-add, drop-drop, get_or-drop, take_at, drop_at, drop-set-lt, get_or-set_same, get_or-set_other}
+use lib.Seq.{drop-append-add, drop-drop, get_or-drop, take_at, drop-set-lt, get_or-set_same, get_or-set_other}
 use native.Mathlib.Omega.{arith}
 use Rattle.slices.specs.Bytes.{all, is_zero}
 use Rattle.slices.proofs.Laws.{all_drop, all_drop_more, all_append, all_drop-append, all_replicate, all_set, part_left, put-length, drop-put, get_or-zero}

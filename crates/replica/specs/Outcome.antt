@@ -1,10 +1,12 @@
 -- What a call tells: document 01's number and values for each case of the enums.
-use Rattle.std.specs.Prelude.{ℕ, Bool, ◌&&◌, ◌||◌, leb}
+use Rattle.std.specs.Prelude.{ℕ, Bool, ◌&&◌, ◌||◌, leb, Result, Ok, Err}
 use Rattle.operation.specs.Operation.{Response}
 use Rattle.replica.specs.declared.Refusal.{Refusal}
 use Rattle.replica.specs.declared.Refusal.TheVariants as R
 use Rattle.replica.specs.declared.Halt.{Halt}
 use Rattle.replica.specs.declared.Halt.TheVariants as H
+use Rattle.replica.specs.declared.Stop.{Stop}
+use Rattle.replica.specs.declared.Stop.TheVariants as S
 use Rattle.replica.specs.declared.Event.{Event}
 use Rattle.replica.specs.declared.Event.TheVariants as D
 use Rattle.replica.specs.declared.Outcome.{Outcome}
@@ -40,6 +42,15 @@ halt_no H.Chain = 23
 halt_no H.Last = 24
 halt_no H.Seq = 25
 halt_no H.Uncommitted = 26
+
+-- the number of the no that stops a call, and that of checks in order: 0 where none has a no
+abbrev pub stop_no : Stop → ℕ
+stop_no (S.Refused r) = refusal_no r
+stop_no (S.Halted h) = halt_no h
+
+abbrev pub no_of : {A : Type 0} → Result A Stop → ℕ
+no_of (Ok a) = 0
+no_of (Err s) = stop_no s
 
 -- which numbers are halts: said here alone (proofs/Once.antt: they are those of the enum); and which a client's checks have
 abbrev pub is_halt : ℕ → Bool

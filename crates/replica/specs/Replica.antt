@@ -1,5 +1,5 @@
 -- The client's state (document 01: the van's book): fresh, in range (check 8), refused, halted; and checks in order. Its places: Places.antt.
-use Rattle.std.specs.Prelude.{ℕ, ◌+◌, List, [], ◌∷◌, ◌++◌, Bool, true, cond, ◌&&◌, ◌||◌, length, drop, replicate, leb, eqb}
+use Rattle.std.specs.Prelude.{ℕ, ◌+◌, List, [], ◌∷◌, ◌++◌, Bool, true, cond, ◌||◌, length, drop, replicate, leb, eqb}
 use Rattle.checks.specs.Checks.{every}
 use Rattle.operation.specs.declared.Operation.{Operation}
 use Rattle.operation.specs.Operation.{max_count, max_pending, op_ok, no_op, zero_cells, temps_ok}

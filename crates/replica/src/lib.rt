@@ -2,8 +2,9 @@
 // specs/Places.antt, specs/Replica.antt.
 #![tactic(auto)]
 
-ghost use Rattle.std.specs.Prelude.{◌≡◌, ◌≤◌, true};
-ghost use Rattle.replica.specs.Outcome.{refusal_no, halt_no, is_halt, is_stop};
+ghost use Rattle.std.specs.Prelude.{◌≡◌, ◌≤◌};
+ghost use Rattle.replica.specs.Outcome.{refusal_no, halt_no, stop_no, is_halt};
+ghost use Rattle.replica.specs.declared.Stop.TheVariants.{Refused, Halted};
 ghost use Rattle.operation.specs.Operation.{max_pending};
 ghost use Rattle.replica.specs.Places.{value_at};
 ghost use Rattle.replica.specs.Replica.{fresh_replica, no_current, after_of, refuse, halt, stop};
@@ -32,7 +33,7 @@ pub struct Replica {
 }
 
 // Why a call is refused; its number is `refusal_no` of specs/Outcome.antt.
-#[derive(Clone, Copy)]
+#[derive(Clone, Copy, Debug, PartialEq, Eq)]
 pub enum Refusal {
     Number,
     Keys,
@@ -44,8 +45,26 @@ pub enum Refusal {
     Range,
 }
 
+impl Refusal {
+    // The number of a refusal.
+    pub fn number(self) -> u8
+        ensures { result ≡ refusal_no self }
+    {
+        match self {
+            Refusal::Number => 1,
+            Refusal::Keys => 2,
+            Refusal::HaltMark => 3,
+            Refusal::Current => 4,
+            Refusal::Forbidden => 5,
+            Refusal::CountFull => 6,
+            Refusal::Room => 7,
+            Refusal::Range => 8,
+        }
+    }
+}
+
 // Why a client halts; its number is `halt_no`.
-#[derive(Clone, Copy)]
+#[derive(Clone, Copy, Debug, PartialEq, Eq)]
 pub enum Halt {
     Form,
     Content,
@@ -56,8 +75,48 @@ pub enum Halt {
     Uncommitted,
 }
 
+impl Halt {
+    // The number of a halt.
+    pub fn number(self) -> u8
+        ensures { result ≡ halt_no self }
+    {
+        match self {
+            Halt::Form => 20,
+            Halt::Content => 21,
+            Halt::Tag => 22,
+            Halt::Chain => 23,
+            Halt::Last => 24,
+            Halt::Seq => 25,
+            Halt::Uncommitted => 26,
+        }
+    }
+}
+
+// Why a call does not succeed: the error of the checks; its number is `stop_no`.
+#[derive(Clone, Copy, Debug, PartialEq, Eq)]
+pub enum Stop {
+    Refused(Refusal),
+    Halted(Halt),
+}
+
+impl From<Refusal> for Stop {
+    ghost from_gives = { λ why stop. stop ≡ Refused why };
+
+    fn from(why: Refusal) -> Stop {
+        Stop::Refused(why)
+    }
+}
+
+impl From<Halt> for Stop {
+    ghost from_gives = { λ why stop. stop ≡ Halted why };
+
+    fn from(why: Halt) -> Stop {
+        Stop::Halted(why)
+    }
+}
+
 // What a successful call brings.
-#[derive(Clone, Copy)]
+#[derive(Clone, Copy, Debug, PartialEq, Eq)]
 pub enum Event {
     Opened,
     Invoked(u32),
@@ -66,7 +125,7 @@ pub enum Event {
     Confirmed { seq: u32, status: u8 },
 }
 
-#[derive(Clone, Copy)]
+#[derive(Clone, Copy, Debug, PartialEq, Eq)]
 pub enum Outcome {
     Success(Event),
     Refused(Refusal),
@@ -99,18 +158,16 @@ pub fn no_current(e: Operation) -> bool
 pub fn fresh(number: u8, keys: [u8; message::KEYS_LENGTH]) -> Replica
     ensures { result ≡ fresh_replica number keys }
 {
-    let current = operation::no_op();
-    let cells = operation::zero_cells();
     Replica {
         number,
         keys,
         count: 0,
-        current,
+        current: operation::no_op(),
         confirmed: 0,
         held: 0,
-        chain: [0u8; CHAIN_LENGTH],
-        statuses: [0u8; operation::MAX_PENDING],
-        cells,
+        chain: [0; CHAIN_LENGTH],
+        statuses: [0; operation::MAX_PENDING],
+        cells: operation::zero_cells(),
         halt: 0,
     }
 }
@@ -125,70 +182,6 @@ pub fn refused(replica: Replica, why: Refusal) -> Stepped
     }
 }
 
-// The number of a refusal.
-pub fn refusal_number(why: Refusal) -> u8
-    ensures { result ≡ refusal_no why }
-{
-    match why {
-        Refusal::Number => 1,
-        Refusal::Keys => 2,
-        Refusal::HaltMark => 3,
-        Refusal::Current => 4,
-        Refusal::Forbidden => 5,
-        Refusal::CountFull => 6,
-        Refusal::Room => 7,
-        Refusal::Range => 8,
-    }
-}
-
-// The number of a halt.
-pub fn halt_number(why: Halt) -> u8
-    ensures { result ≡ halt_no why }
-{
-    match why {
-        Halt::Form => 20,
-        Halt::Content => 21,
-        Halt::Tag => 22,
-        Halt::Chain => 23,
-        Halt::Last => 24,
-        Halt::Seq => 25,
-        Halt::Uncommitted => 26,
-    }
-}
-
-// The refusal of this number.
-fn refusal_of(number: u8) -> Refusal
-    requires { (1 ≤ number) × (number ≤ 8) }
-    ensures { refusal_no result ≡ number }
-{
-    match number {
-        1 => Refusal::Number,
-        2 => Refusal::Keys,
-        3 => Refusal::HaltMark,
-        4 => Refusal::Current,
-        5 => Refusal::Forbidden,
-        6 => Refusal::CountFull,
-        7 => Refusal::Room,
-        _ => Refusal::Range,
-    }
-}
-
-// The halt of this number.
-fn halt_of(number: u8) -> Halt
-    requires { is_halt number ≡ true }
-    ensures { halt_no result ≡ number }
-{
-    match number {
-        20 => Halt::Form,
-        21 => Halt::Content,
-        22 => Halt::Tag,
-        23 => Halt::Chain,
-        24 => Halt::Last,
-        25 => Halt::Seq,
-        _ => Halt::Uncommitted,
-    }
-}
-
 // Whether a number is a halt's.
 pub fn is_halt(number: u8) -> bool
     ensures { result ≡ is_halt number }
@@ -197,26 +190,24 @@ pub fn is_halt(number: u8) -> bool
 }
 
 // A halt: the halt mark set, the rest as it was.
-fn halted(replica: Replica, number: u8) -> Stepped
-    requires { is_halt number ≡ true }
-    ensures { after_of result ≡ halt replica number }
+fn halted(replica: Replica, why: Halt) -> Stepped
+    ensures { after_of result ≡ halt replica (halt_no why) }
 {
-    let mut r = replica;
-    r.halt = number;
     Stepped {
-        replica: r,
-        outcome: Outcome::Halted(halt_of(number)),
+        replica: Replica {
+            halt: why.number(),
+            ..replica
+        },
+        outcome: Outcome::Halted(why),
     }
 }
 
 // A check's no, carried out.
-pub fn stopped(replica: Replica, number: u8) -> Stepped
-    requires { is_stop number ≡ true }
-    ensures { after_of result ≡ stop replica number }
+pub fn stopped(replica: Replica, why: Stop) -> Stepped
+    ensures { after_of result ≡ stop replica (stop_no why) }
 {
-    if is_halt(number) {
-        halted(replica, number)
-    } else {
-        refused(replica, refusal_of(number))
+    match why {
+        Stop::Refused(why) => refused(replica, why),
+        Stop::Halted(why) => halted(replica, why),
     }
 }

@@ -3,12 +3,13 @@
 
 ghost use Rattle.std.specs.Prelude.{◌≡◌};
 ghost use Rattle.checks.specs.Checks.{first_no};
+ghost use Rattle.replica.specs.Outcome.{no_of};
 ghost use Rattle.replica.specs.Replica.{numbers_ok, arrays_ok, in_range, ready_checks};
 
-use replica::Replica;
+use replica::{Refusal, Replica, Stop};
 
-fn numbers_ok(r: Replica) -> bool
-    ensures { result ≡ numbers_ok r }
+fn numbers_ok(r: &Replica) -> bool
+    ensures { result ≡ numbers_ok r.now }
 {
     let last = r.confirmed as u64 + r.held as u64;
     (1 <= r.number)
@@ -20,33 +21,28 @@ fn numbers_ok(r: Replica) -> bool
         & ((r.halt == 0) | replica::is_halt(r.halt))
 }
 
-fn arrays_ok(r: Replica) -> bool
-    ensures { result ≡ arrays_ok r }
+fn arrays_ok(r: &Replica) -> bool
+    ensures { result ≡ arrays_ok r.now }
 {
-    let statuses = r.statuses;
-    let chain = r.chain;
-    let cells = r.cells;
-    let temps = cells.temps;
     let held = r.held as usize;
-    let s = slices::each_most(&statuses, 2);
-    let t = slices::zero_from(&statuses, held);
-    let u = slices::zero_from(&chain, (held + 1) * message::DIGEST_LENGTH);
-    let w = operation::temps_ok(temps);
-    s & t & u & w
+    slices::each_most(&r.statuses, 2)
+        & slices::zero_from(&r.statuses, held)
+        & slices::zero_from(&r.chain, (held + 1) * message::DIGEST_LENGTH)
+        & operation::temps_ok(r.cells.temps)
 }
 
 // Check 8: whether each field is in range.
-pub fn in_range(r: Replica) -> bool
-    ensures { result ≡ in_range r }
+pub fn in_range(r: &Replica) -> bool
+    ensures { result ≡ in_range r.now }
 {
-    let current = r.current;
-    numbers_ok(r) & (replica::no_current(current) | operation::op_ok(current)) & arrays_ok(r)
+    numbers_ok(r) & (replica::no_current(r.current) | operation::op_ok(r.current)) & arrays_ok(r)
 }
 
 // Checks 8 and 3, which every call on a replica asks first.
-pub fn ready(r: Replica) -> u8
-    ensures { result ≡ first_no 0 (ready_checks r) }
+pub fn ready(r: &Replica) -> Result<(), Stop>
+    ensures { no_of result ≡ first_no 0 (ready_checks r.now) }
 {
-    let q = checks::also(0, in_range(r), 8);
-    checks::also(q, r.halt == 0, 3)
+    checks::ask(in_range(r), Refusal::Range)?;
+    checks::ask(r.halt == 0, Refusal::HaltMark)?;
+    Ok(())
 }

@@ -12,9 +12,9 @@ use message::{Commit, Item};
 use operation::Operation;
 
 // What each tag by a client's key starts from.
-pub fn key_state(keys: [u8; message::KEYS_LENGTH], client: u8) -> Keyed
+pub fn key_state(keys: &[u8; message::KEYS_LENGTH], client: u8) -> Keyed
     requires { (1 ≤ client) × (client ≤ client_count) }
-    ensures { result ≡ keyed_of (key_of keys client) }
+    ensures { result ≡ keyed_of (key_of keys.now client) }
 {
     let a = (client as usize - 1) * message::KEY_LENGTH;
     hmac::keyed_of(&keys[a..a + message::KEY_LENGTH])
@@ -24,18 +24,17 @@ pub fn key_state(keys: [u8; message::KEYS_LENGTH], client: u8) -> Keyed
 fn invoke_tag_by(s: Keyed, e: Operation, author: u8) -> [u8; message::TAG_LENGTH]
     ensures { (keys : List ℕ) → s ≡ keyed_of (key_of keys author) → result ≡ invoke_tag keys e author }
 {
-    let m = message_strings::invoke_string(e, author);
-    hmac::tag_by(s, &m)
+    hmac::tag_by(s, &message_strings::invoke_string(e, author))
 }
 
 // The tag of an invoke.
 pub fn invoke_tag(
-    keys: [u8; message::KEYS_LENGTH],
+    keys: &[u8; message::KEYS_LENGTH],
     e: Operation,
     author: u8,
 ) -> [u8; message::TAG_LENGTH]
     requires { (1 ≤ author) × (author ≤ client_count) }
-    ensures { result ≡ invoke_tag keys e author }
+    ensures { result ≡ invoke_tag keys.now e author }
 {
     invoke_tag_by(key_state(keys, author), e, author)
 }
@@ -51,8 +50,10 @@ pub fn commit_tag_by(
 ) -> [u8; message::TAG_LENGTH]
     ensures { (keys : List ℕ) → s ≡ keyed_of (key_of keys author) → result ≡ commit_tag keys e author seq digest status }
 {
-    let m = message_strings::commit_string(e, author, seq, digest, status);
-    hmac::tag_by(s, &m)
+    hmac::tag_by(
+        s,
+        &message_strings::commit_string(e, author, seq, digest, status),
+    )
 }
 
 // Whether a tag is the right one: the differences of all 32 bytes, tested once. Tags are compared here only.
@@ -66,21 +67,19 @@ fn tag_is(tag: [u8; message::TAG_LENGTH], right: [u8; message::TAG_LENGTH]) -> b
 pub fn item_tag_ok(s: Keyed, i: Item) -> bool
     ensures { (keys : List ℕ) → s ≡ keyed_of (key_of keys i.author) → result ≡ item_tag_ok keys i }
 {
-    let e = i.op;
-    let tag = i.tag;
-    tag_is(tag, invoke_tag_by(s, e, i.author))
+    tag_is(i.tag, invoke_tag_by(s, i.op, i.author))
 }
 
 // Whether a broadcast's tag is right.
-pub fn commit_tag_ok(keys: [u8; message::KEYS_LENGTH], k: Commit) -> bool
+pub fn commit_tag_ok(keys: &[u8; message::KEYS_LENGTH], k: Commit) -> bool
     requires { (1 ≤ k.author) × (k.author ≤ client_count) }
-    ensures { result ≡ commit_tag_ok keys k }
+    ensures { result ≡ commit_tag_ok keys.now k }
 {
-    let e = k.op;
-    let digest = k.digest;
-    let tag = k.tag;
     let s = key_state(keys, k.author);
-    tag_is(tag, commit_tag_by(s, e, k.author, k.seq, digest, k.status))
+    tag_is(
+        k.tag,
+        commit_tag_by(s, k.op, k.author, k.seq, k.digest, k.status),
+    )
 }
 
 // The chain value at `seq`, from the one before it.
@@ -92,6 +91,5 @@ pub fn link_value(
 ) -> [u8; message::DIGEST_LENGTH]
     ensures { result ≡ link_value value e seq author }
 {
-    let s = message_strings::chain_string(value, e, seq, author);
-    sha256::digest_of(&s)
+    sha256::digest_of(&message_strings::chain_string(value, e, seq, author))
 }

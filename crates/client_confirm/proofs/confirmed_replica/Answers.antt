@@ -4,4 +4,4 @@ use Rattle.client_confirm.proofs.confirmed_replica.Goals as goal
 
 pub returns : goal.returns
 unfolding confirmed_replica
-returns c = rw (c.less_one.ensures, c.effect_on-cells.ensures, c.status_shift-statuses.ensures, c.chain_shift-chain.ensures, ← next_is _ _ c.requires.1)
+returns c = rw (c.saturating_sub.ensures, c.effect_on.ensures, c.status_shift.ensures, c.chain_shift.ensures, ← next_is _ _ c.requires.1)

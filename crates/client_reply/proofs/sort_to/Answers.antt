@@ -1,62 +1,35 @@
-use mathlib.Core.Logic.{⊎_elim}
-use Prim.Native.Nat.{ℕ, ◌+◌, ◌≤◌}
-use mathlib.Core.Path.{◌≡◌, ap, ◌∙◌}
 use native.Mathlib.Omega.{arith}
-use lib.ListN.{length, length-set}
-use borrow.Author.Rules.{rules}
 use Rattle.client_reply.specs.Reply.{sort_to}
 use Rattle.client_reply.proofs.Laws.{sort_own, sort_skip, sort_other}
 use Rattle.client_reply.proofs.sort_to.Goals as goal
+use Rattle.client_reply.proofs.sort_to.Goals.{then-i-r+then-r-k-eq1, then-i-r+else-r-k-eq1, else-i-r}
 
 pub loop-k-init : goal.loop-k-init
 unfolding sort_to
-loop-k-init c = search rules
-
--- a counter that stayed, and one that went on
-stayed : (p : ℕ) {q k : ℕ} → q ≡ p → p ≤ k → q ≤ k + 1
-stayed p e h = omega arith
-
-went : (p : ℕ) {q k : ℕ} → q ≡ p + 1 → p ≤ k → q ≤ k + 1
-went p e h = omega arith
+loop-k-init c =
+    let p = c.empty-others.ensures in
+    let q = c.empty-own.ensures in
+    (omega (arith, p.1), omega (arith, q.1), rw (p.0, q.0))
 
 pub loop-k-preserved : goal.loop-k-preserved
 loop-k-preserved c =
     let l = c.loop-k in
+    let v = l.invariant in
     let i = c.item_of-i in
-    let k : l.k + 1 ≤ c.args.n = omega arith in
-    ⊎_elim
-    (λ w. (
-      k,
-      stayed l.p w.p-is l.invariant.1,
-      went l.q w.q-is l.invariant.2,
-      ap length w.others-is ∙ l.invariant.3,
-      ap length w.own-is ∙ simp length-set l.invariant.4,
-      rw (w.others-is, w.own-is, w.p-is, w.q-is)
-          (sort_own _ _ _ _ _ _ i.ensures l.others l.own l.p l.q l.invariant.5 w.if-i-number.true (search rules) (omega arith)),
-    ))
-    (⊎_elim
-    (λ w. (
-      k,
-      stayed l.p w.p-is l.invariant.1,
-      stayed l.q w.q-is l.invariant.2,
-      ap length w.others-is ∙ l.invariant.3,
-      ap length w.own-is ∙ l.invariant.4,
-      rw (w.others-is, w.own-is, w.p-is, w.q-is)
-          (sort_skip _ _ _ _ _ _ i.ensures l.others l.own l.p l.q l.invariant.5 w.if-i-number.true (search rules)),
-    ))
-    (λ w. (
-      k,
-      went l.p w.p-is l.invariant.1,
-      stayed l.q w.q-is l.invariant.2,
-      ap length w.others-is ∙ simp length-set l.invariant.3,
-      ap length w.own-is ∙ l.invariant.4,
-      rw (w.others-is, w.own-is, w.p-is, w.q-is)
-          (sort_other _ _ _ _ _ _ i.ensures l.others l.own l.p l.q l.invariant.5 w.if-i-number.false (omega arith)),
-    )))
-    c.if-i-number.branch-raw
-
-pub returns : goal.returns
-returns c =
-    let l = c.loop-k in
-    let e : l.k ≡ c.args.n = omega arith in
-    (l.invariant.5 ∙ rw e, record { n = omega arith; m = omega arith; own = l.invariant.4 })
+    elim c.if-i-r.branch [
+      then-i-r+then-r-k-eq1 w ↦ (
+        rw w.others-is (omega (arith, v.0)),
+        rw w.own-is (omega (arith, v.1, w.push.ensures.1)),
+        rw (w.others-is, w.own-is, w.push.ensures.0) (sort_own _ _ _ _ _ _ i.ensures _ _ v.2 w.if-i-r.true w.if-r-k-eq1.true),
+      )
+    | then-i-r+else-r-k-eq1 w ↦ (
+        rw w.others-is (omega (arith, v.0)),
+        rw w.own-is (omega (arith, v.1)),
+        rw (w.others-is, w.own-is) (sort_skip _ _ _ _ _ _ i.ensures _ _ v.2 w.if-i-r.true w.if-r-k-eq1.false),
+      )
+    | else-i-r w ↦ (
+        rw w.others-is (omega (arith, v.0, w.push-else-i-r.ensures.1)),
+        rw w.own-is (omega (arith, v.1)),
+        rw (w.others-is, w.own-is, w.push-else-i-r.ensures.0) (sort_other _ _ _ _ _ _ i.ensures _ _ v.2 w.if-i-r.false),
+      )
+    ]

@@ -1,38 +1,24 @@
-use Rattle.client_reply_check.specs.ReplyChecks.{item_checks, items_checks}
-use mathlib.Core.Path.{◌≡◌, refl, ap, ◌∙◌}
+use mathlib.Core.Path.{refl, ◌∙◌}
 use native.Mathlib.Omega.{arith}
-use Rattle.checks.specs.Checks.{first_no}
-use Rattle.client_reply_check.proofs.Laws.{items_more}
-use Rattle.message.specs.declared.Item.{Item}
-use Rattle.key_table.proofs.Laws.{one_more}
 use borrow.Author.Rules.{rules}
+use Rattle.replica.proofs.Stops.{stops_at, stops_some, goes_on}
+use Rattle.client_reply_check.specs.ReplyChecks.{items_checks}
+use Rattle.client_reply_check.proofs.Laws.{item_goes, item_stops}
 use Rattle.client_reply_items.proofs.items_check.Goals as goal
 
 pub loop-k-init : goal.loop-k-init
 unfolding items_checks
-loop-k-init c = (refl, search rules, c.none-t.ensures _)
+loop-k-init c = (refl, c.none-table.ensures _)
 
-pub state_of-s-requires : goal.state_of-s-requires
-state_of-s-requires c = rw c.entry_place-at.ensures.0 (c.loop-k.invariant.2.each _)
+pub returns-in_err-item_check : goal.returns-in_err-item_check
+returns-in_err-item_check c =
+    let e = c.item_check.ensures.0 in
+    let s = c.in_err-item_check.was in
+    let g = item_stops _ _ _ c.requires.0 _ _ c.item_of-i.ensures c.loop-k.invariant.0 (stops_some _ _ e _ s) (omega (arith, c.loop-k-test.true)) in
+    let w = stops_at _ _ e _ s ∙ g in
+    (search (rules, w), search rules)
 
 pub loop-k-preserved : goal.loop-k-preserved
 loop-k-preserved c =
-    let p = c in
-    let z = p in
-    let a = z.args in
-    let l = p.loop-k in
-    let s = c.state_of-s.ensures in
-    let e = ap (λ (i : Item). first_no l.q (item_checks a.r a.n l.k i)) c.item_of-i.ensures in (
-      c.item_also-q.ensures a.r s ∙ e ∙ rw (l.invariant.0, z.requires.0) (items_more a.r a.m.now l.k),
-      omega (arith, c.loop-k-test.true),
-      rw c.entry_place-at.ensures.0 (one_more _ _ _ _ l.invariant.2 s),
-    )
-
-pub state_of-requires : goal.state_of-requires
-state_of-requires c = rw c.entry_place-at-2.ensures.0 (c.loop-k.invariant.2.each _)
-
-pub returns : goal.returns
-returns c =
-    let p = c in
-    let e : p.loop-k.k ≡ p.args.n = omega arith in
-    (p.loop-k.invariant.0 ∙ rw e, c.state_of.ensures)
+    let e = c.item_check.ensures in
+    (item_goes _ _ _ c.requires.0 _ _ c.item_of-i.ensures c.loop-k.invariant.0 (goes_on _ _ e.0 _ c.in_ok-item_check.was), e.1)

@@ -4,4 +4,4 @@ use Rattle.verify.proofs.commit_tag_by.Goals as goal
 
 pub returns : goal.returns
 unfolding commit_tag
-returns c keys e = c.tag_by.ensures _ e ∙ rw c.commit_string-m.ensures
+returns c keys e = c.tag_by.ensures _ e ∙ rw c.commit_string.ensures

@@ -3,4 +3,4 @@ use Rattle.verify.proofs.link_value.Goals as goal
 
 pub returns : goal.returns
 unfolding link_value
-returns c = rw (c.digest_of.ensures, c.chain_string-s.ensures)
+returns c = rw (c.digest_of.ensures, c.chain_string.ensures)
