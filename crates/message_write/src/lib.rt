@@ -1,9 +1,9 @@
-// What is written of the messages into a lent buffer, and not a byte past it: an item, an invoke, a commit. Definitions: specs/Message.antt of message.
+// What is written of the messages into a lent buffer, and not a byte past it: an item, an invoke, a commit, a broadcast. Definitions: specs/Message.antt of message.
 #![tactic(auto)]
 
 ghost use Rattle.std.specs.Prelude.{◌≡◌, ◌++◌, ◌+◌, ◌≤◌, length, take, drop};
 ghost use Rattle.message.specs.Layout.{item_length, invoke_length, commit_length};
-ghost use Rattle.message.specs.Message.{item_bytes, invoke_bytes, commit_bytes};
+ghost use Rattle.message.specs.Message.{item_bytes, invoke_bytes, commit_bytes, commit_fields, broadcast_bytes};
 
 use message::{Commit, Item};
 
@@ -46,22 +46,32 @@ pub fn write_invoke(out: &mut [u8], i: Item)
     out[0..message::INVOKE_LENGTH].copy_from_slice(&invoke_bytes(i));
 }
 
-// The bytes of a commit.
-#[tactic(auto, unfolding(message::specs::Message::commit_bytes, message::specs::Message::commit_string, operation::specs::Operation::op_bytes, slices::specs::Bytes::big_endian))]
-fn commit_bytes(k: Commit) -> [u8; message::COMMIT_LENGTH]
-    ensures { result ≡ commit_bytes k }
+// The bytes of a commit, or of a broadcast, which differs by its mark.
+fn commit_bytes(mark: [u8; message::MARK_LENGTH], k: Commit) -> [u8; message::COMMIT_LENGTH]
+    ensures { result ≡ mark ++ commit_fields k }
 {
     let mut t = [0u8; message::COMMIT_LENGTH];
     let f = message_strings::commit_string(k.op, k.author, k.seq, k.digest, k.status);
     t[message::TAG_OFFSET..].copy_from_slice(&k.tag);
     t[..message::TAG_OFFSET].copy_from_slice(&f);
+    t[..message::MARK_LENGTH].copy_from_slice(&mark);
     t
 }
 
 // Writes a commit.
+#[tactic(auto, unfolding(message::specs::Message::commit_bytes, message::specs::Message::commit_fields, message::specs::Message::commit_string))]
 pub fn write_commit(out: &mut [u8], k: Commit)
     requires { commit_length ≤ length out.old }
     ensures { out.new ≡ commit_bytes k ++ drop commit_length out.old }
 {
-    out[0..message::COMMIT_LENGTH].copy_from_slice(&commit_bytes(k));
+    out[0..message::COMMIT_LENGTH].copy_from_slice(&commit_bytes(message::COMMIT_MARK, k));
+}
+
+// Writes a broadcast at `at`.
+#[tactic(auto, unfolding(message::specs::Message::broadcast_bytes))]
+pub fn write_broadcast(out: &mut [u8], at: usize, k: Commit)
+    requires { at + commit_length ≤ length out.old }
+    ensures { out.new ≡ take at out.old ++ broadcast_bytes k ++ drop (at + commit_length) out.old }
+{
+    out[at..at + message::COMMIT_LENGTH].copy_from_slice(&commit_bytes(message::BROADCAST_MARK, k));
 }
