@@ -2,11 +2,12 @@ use mathlib.Core.Path.{◌≡◌, sym, ap, ◌∙◌}
 use mathlib.Core.Bool.{false}
 use lib.Dec.{eqb}
 use native.Mathlib.Omega.{arith}
+use borrow.Author.Rules.{rules}
 use Rattle.checks.specs.Checks.{first_no}
 use Rattle.message.specs.declared.Item.{Item}
 use Rattle.message.specs.declared.Commit.{Commit}
 use Rattle.message.proofs.Laws.{invoke_length_lem}
-use Rattle.server.specs.Server.{item_ok, line_checks, placing_checks, commit_checks}
+use Rattle.server.specs.Server.{refusal_no, no_of, item_ok, line_checks, placing_checks, commit_checks}
 use Rattle.server.proofs.Laws.{ranged, item_author_lem}
 use Rattle.server_check.proofs.Laws.{refusal_some, line_yes, invoke_item, commit_long, no_stops, no_invoke, no_commit_lem}
 use Rattle.server_check.proofs.check.Goals as goal
@@ -16,7 +17,8 @@ returns-in_err-line_check c =
     let a = c.args in
     let n = c.in_err-line_check.ensures in
     let e : eqb (first_no 0 (line_checks a.s.now a.line a.m.now)) 0 ≡ false = rw (sym n) (refusal_some _) in
-    n ∙ sym (no_stops a.s.now a.line a.m.now a.room e)
+    let f : no_of c.from_residual.result ≡ refusal_no c.in_err-line_check.field-0.0 = search rules in
+    f ∙ n ∙ sym (no_stops a.s.now a.line a.m.now a.room e)
 
 pub read_item-i-requires : goal.read_item-i-requires
 read_item-i-requires c = omega (arith, invoke_length_lem c.args.m.now (sym c.is_invoke.ensures ∙ c.if-is_invoke.true))
