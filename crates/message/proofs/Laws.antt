@@ -4,7 +4,7 @@ use mathlib.Core.Path.{◌≡◌, refl, sym, ap, ◌∙◌}
 use mathlib.Core.List.{List, [], ◌∷◌, ◌++◌, append-nil, append_assoc}
 use mathlib.Core.Bool.{true, ◌&&◌}
 use lib.Dec.{leb, eqb}
-use lib.ListN.{length, take, drop, replicate, length-append, length-take, take-append-drop, drop_of_length-le}
+use lib.ListN.{length, take, drop, replicate, length-append, length-take, take-append-drop}
 use lib.Seq.{take-append_seam, drop-append-add, drop-drop, take_at, drop_at}
 use native.Mathlib.Omega.{arith}
 use borrow.Author.Rules.{rules}

@@ -1,26 +1,21 @@
 -- What the readers of any bytes give, and which fields fit the messages.
-use Rattle.std.specs.Prelude.{ℕ, ◌<◌, ◌^◌, ◌≡◌, List, [], ◌∷◌, cond, length, replicate}
+use Rattle.std.specs.Prelude.{ℕ, ◌<◌, ◌^◌, ◌≡◌, List, [], ◌∷◌, cond, length, replicate, Option, Some, None}
 use Rattle.operation.specs.Operation.{no_op}
 use Rattle.message.specs.declared.Item.{Item}
 use Rattle.message.specs.declared.Commit.{Commit}
-use Rattle.message.specs.declared.ReadItem.{ReadItem}
-use Rattle.message.specs.declared.ReadCommit.{ReadCommit}
 use Rattle.message.specs.Layout.{mark_length, digest_length, tag_length}
 use Rattle.message.specs.Message.{is_invoke, is_commit, item_at, commit_of}
 
--- no item and no commit: every field zero
+-- no item: every field zero
 abbrev pub no_item : Item
 no_item = record { op = no_op; author = 0; tag = replicate tag_length 0 }
 
-abbrev pub no_commit : Commit
-no_commit = record { op = no_op; author = 0; seq = 0; digest = replicate digest_length 0; status = 0; tag = replicate tag_length 0 }
+-- the message's content where mark and length are right, else none
+unfoldable pub read_invoke : List ℕ → Option Item
+read_invoke m = cond (is_invoke m) (Some (item_at m mark_length)) None
 
--- the message where mark and length are right, else no and zero
-unfoldable pub read_invoke : List ℕ → ReadItem
-read_invoke m = record { ok = is_invoke m; item = cond (is_invoke m) (item_at m mark_length) no_item }
-
-unfoldable pub read_commit : List ℕ → ReadCommit
-read_commit m = record { ok = is_commit m; commit = cond (is_commit m) (commit_of m) no_commit }
+unfoldable pub read_commit : List ℕ → Option Commit
+read_commit m = cond (is_commit m) (Some (commit_of m)) None
 
 -- the fields fit their places: four bytes for count and sequence number, 32 for digest and tag
 pub record ItemFits (i : Item) : Type 0 where

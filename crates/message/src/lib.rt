@@ -4,7 +4,7 @@
 ghost use Rattle.std.specs.Prelude.{◌≡◌, ◌+◌, ◌*◌, ◌≤◌, length};
 ghost use Rattle.message.specs.Layout.{item_length, reply_head, commit_length};
 ghost use Rattle.message.specs.Message.{marked, is_invoke, is_reply, is_commit, is_broadcast, item_at, reply_item, commit_of};
-ghost use Rattle.message.specs.Readers.{no_item, no_commit, read_invoke, read_commit};
+ghost use Rattle.message.specs.Readers.{read_invoke, read_commit};
 ghost use Rattle.message.specs.Content.{content_ok, commit_ok};
 ghost use Rattle.operation.specs.Operation.{op_ok};
 
@@ -92,36 +92,22 @@ pub struct Commit {
     pub tag: [u8; TAG_LENGTH],
 }
 
-// What a reader of any bytes gives: whether they are the message, and its content, zero where they are not.
-#[derive(Clone, Copy)]
-pub struct ReadItem {
-    pub ok: bool,
-    pub item: Item,
-}
-
-#[derive(Clone, Copy)]
-pub struct ReadCommit {
-    pub ok: bool,
-    pub commit: Commit,
-}
-
 // Whether the bytes begin with the mark.
+#[tactic(auto, unfolding(crate::specs::Message::marked))]
 pub fn is_marked(mark: [u8; MARK_LENGTH], m: &[u8]) -> bool
     ensures { result ≡ marked mark m.now }
 {
-    if MARK_LENGTH <= m.len() {
-        (m[0] == mark[0]) & (m[1] == mark[1])
-    } else {
-        false
-    }
+    m.starts_with(&mark)
 }
 
+#[tactic(auto, unfolding(crate::specs::Message::is_invoke))]
 pub fn is_invoke(m: &[u8]) -> bool
     ensures { result ≡ is_invoke m.now }
 {
     is_marked(INVOKE_MARK, m) & (m.len() == INVOKE_LENGTH)
 }
 
+#[tactic(auto, unfolding(crate::specs::Message::is_reply))]
 pub fn is_reply(m: &[u8]) -> bool
     ensures { result ≡ is_reply m.now }
 {
@@ -134,12 +120,14 @@ pub fn is_reply(m: &[u8]) -> bool
     }
 }
 
+#[tactic(auto, unfolding(crate::specs::Message::is_commit))]
 pub fn is_commit(m: &[u8]) -> bool
     ensures { result ≡ is_commit m.now }
 {
     is_marked(COMMIT_MARK, m) & (m.len() == COMMIT_LENGTH)
 }
 
+#[tactic(auto, unfolding(crate::specs::Message::is_broadcast))]
 pub fn is_broadcast(m: &[u8]) -> bool
     ensures { result ≡ is_broadcast m.now }
 {
@@ -147,6 +135,7 @@ pub fn is_broadcast(m: &[u8]) -> bool
 }
 
 // The item at byte `i`.
+#[tactic(auto, unfolding(crate::specs::Message::item_at))]
 pub fn read_item(m: &[u8], i: usize) -> Item
     requires { i + item_length ≤ length m.now }
     ensures { result ≡ item_at m.now i }
@@ -167,6 +156,7 @@ pub fn item_of(m: &[u8], k: usize) -> Item
 }
 
 // The fields of a commit or broadcast.
+#[tactic(auto, unfolding(crate::specs::Message::commit_of))]
 pub fn commit_of(m: &[u8]) -> Commit
     requires { commit_length ≤ length m.now }
     ensures { result ≡ commit_of m.now }
@@ -189,6 +179,7 @@ pub fn content_ok(e: Operation, author: u8) -> bool
 }
 
 // Whether a commit's operation, author and status are allowed.
+#[tactic(auto, unfolding(crate::specs::Content::commit_ok))]
 pub fn commit_ok(k: Commit) -> bool
     ensures { result ≡ commit_ok k }
 {
@@ -196,54 +187,26 @@ pub fn commit_ok(k: Commit) -> bool
     content_ok(e, k.author) & (k.status <= 1)
 }
 
-// No item: every field zero.
-pub fn no_item() -> Item
-    ensures { result ≡ no_item }
-{
-    let op = operation::no_op();
-    let tag = [0u8; TAG_LENGTH];
-    Item { op, author: 0, tag }
-}
-
-// No commit: every field zero.
-pub fn no_commit() -> Commit
-    ensures { result ≡ no_commit }
-{
-    let op = operation::no_op();
-    let digest = [0u8; DIGEST_LENGTH];
-    let tag = [0u8; TAG_LENGTH];
-    Commit {
-        op,
-        author: 0,
-        seq: 0,
-        digest,
-        status: 0,
-        tag,
-    }
-}
-
 // The item of an invoke, from any bytes.
-pub fn read_invoke(m: &[u8]) -> ReadItem
+#[tactic(auto, unfolding(crate::specs::Readers::read_invoke, crate::specs::Message::is_invoke))]
+pub fn read_invoke(m: &[u8]) -> Option<Item>
     ensures { result ≡ read_invoke m.now }
 {
     if is_invoke(m) {
-        let item = read_item(m, MARK_LENGTH);
-        ReadItem { ok: true, item }
+        Some(read_item(m, MARK_LENGTH))
     } else {
-        let item = no_item();
-        ReadItem { ok: false, item }
+        None
     }
 }
 
 // The commit of a commit message, from any bytes.
-pub fn read_commit(m: &[u8]) -> ReadCommit
+#[tactic(auto, unfolding(crate::specs::Readers::read_commit, crate::specs::Message::is_commit))]
+pub fn read_commit(m: &[u8]) -> Option<Commit>
     ensures { result ≡ read_commit m.now }
 {
     if is_commit(m) {
-        let commit = commit_of(m);
-        ReadCommit { ok: true, commit }
+        Some(commit_of(m))
     } else {
-        let commit = no_commit();
-        ReadCommit { ok: false, commit }
+        None
     }
 }

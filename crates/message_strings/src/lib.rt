@@ -1,23 +1,26 @@
 // The strings under digest and tag. Definitions: specs/Message.antt of message.
 #![tactic(auto)]
 
-ghost use Rattle.std.specs.Prelude.{◌≡◌, [], ◌∷◌, ◌++◌, get_or};
+ghost use Rattle.std.specs.Prelude.{◌≡◌, [], ◌∷◌, ◌++◌};
 ghost use Rattle.operation.specs.Operation.{op_bytes};
 ghost use Rattle.message.specs.Message.{invoke_string, commit_string, chain_string};
 
 use operation::Operation;
 
 // The 11 bytes of mark, operation and author.
+#[tactic(auto, unfolding(operation::specs::Operation::op_bytes, slices::specs::Bytes::big_endian))]
 fn head(mark: [u8; message::MARK_LENGTH], e: Operation, author: u8) -> [u8; message::INVOKE_STRING]
-    ensures { result ≡ get_or mark 0 0 ∷ get_or mark 1 0 ∷ op_bytes e ++ (author ∷ []) }
+    ensures { result ≡ mark ++ op_bytes e ++ (author ∷ []) }
 {
-    let t = operation::op_bytes(e);
-    [
-        mark[0], mark[1], t[0], t[1], t[2], t[3], t[4], t[5], t[6], t[7], author,
-    ]
+    let mut t = [0u8; message::INVOKE_STRING];
+    t[message::MARK_LENGTH..message::AUTHOR_OFFSET].copy_from_slice(&operation::op_bytes(e));
+    t[message::AUTHOR_OFFSET] = author;
+    t[..message::MARK_LENGTH].copy_from_slice(&mark);
+    t
 }
 
 // The string under an invoke's tag.
+#[tactic(auto, unfolding(message::specs::Message::invoke_string))]
 pub fn invoke_string(e: Operation, author: u8) -> [u8; message::INVOKE_STRING]
     ensures { result ≡ invoke_string e author }
 {
@@ -25,6 +28,7 @@ pub fn invoke_string(e: Operation, author: u8) -> [u8; message::INVOKE_STRING]
 }
 
 // The string under a commit's tag.
+#[tactic(auto, unfolding(message::specs::Message::commit_string, operation::specs::Operation::op_bytes, slices::specs::Bytes::big_endian))]
 pub fn commit_string(
     e: Operation,
     author: u8,
@@ -35,16 +39,15 @@ pub fn commit_string(
     ensures { result ≡ commit_string e author seq digest status }
 {
     let mut t = [0u8; message::TAG_OFFSET];
-    let h = head(message::COMMIT_MARK, e, author);
-    let w = slices::word_bytes(seq);
-    slices::copy_to(&mut t, 0, &h);
-    slices::copy_to(&mut t, message::SEQ_OFFSET, &w);
-    slices::copy_to(&mut t, message::DIGEST_OFFSET, &digest);
-    slices::copy_to(&mut t, message::STATUS_OFFSET, &[status]);
+    t[..message::SEQ_OFFSET].copy_from_slice(&head(message::COMMIT_MARK, e, author));
+    t[message::SEQ_OFFSET..message::DIGEST_OFFSET].copy_from_slice(&slices::word_bytes(seq));
+    t[message::STATUS_OFFSET] = status;
+    t[message::DIGEST_OFFSET..message::STATUS_OFFSET].copy_from_slice(&digest);
     t
 }
 
 // The string under the hash chain's value at `seq`; `value` is the one before it.
+#[tactic(auto, unfolding(message::specs::Message::chain_string, operation::specs::Operation::op_bytes, slices::specs::Bytes::big_endian))]
 pub fn chain_string(
     value: [u8; message::DIGEST_LENGTH],
     e: Operation,
@@ -54,11 +57,9 @@ pub fn chain_string(
     ensures { result ≡ chain_string value e seq author }
 {
     let mut t = [0u8; message::LINK_STRING];
-    let o = operation::op_bytes(e);
-    let w = slices::word_bytes(seq);
-    slices::copy_to(&mut t, 0, &value);
-    slices::copy_to(&mut t, message::LINK_OP, &o);
-    slices::copy_to(&mut t, message::LINK_SEQ, &w);
-    slices::copy_to(&mut t, message::LINK_AUTHOR, &[author]);
+    t[message::LINK_OP..message::LINK_SEQ].copy_from_slice(&operation::op_bytes(e));
+    t[message::LINK_SEQ..message::LINK_AUTHOR].copy_from_slice(&slices::word_bytes(seq));
+    t[message::LINK_AUTHOR] = author;
+    t[..message::LINK_OP].copy_from_slice(&value);
     t
 }

@@ -16,9 +16,23 @@ use Rattle.message.specs.Content.{commit_ok}
 use Rattle.message.specs.Message.{marked, is_invoke, is_commit, item_at, commit_of}
 use Rattle.message.proofs.Laws.{invoke_length_lem, commit_length_lem}
 use Rattle.server.specs.declared.Server.{Server}
-use Rattle.server.specs.Server.{is_refusal, item_ok, in_range, leading, slot_of, stored_status, stored_server, whole_invoke, whole_commit, line_checks, placing_checks, commit_checks, server_no}
+use Rattle.server.specs.declared.ServerRefusal.{ServerRefusal}
+use Rattle.server.specs.declared.ServerRefusal.TheVariants as R
+use Rattle.server.specs.Server.{refusal_no, is_refusal, item_ok, in_range, leading, slot_of, stored_status, stored_server, whole_invoke, whole_commit, line_checks, placing_checks, commit_checks, server_no}
 use Rattle.server.proofs.Laws.{ranged, item_author_lem}
 use Rattle.server_commit_check.proofs.Laws.{place_in}
+
+-- a refusal has a number
+pub refusal_some : (r : ServerRefusal) → eqb (refusal_no r) 0 ≡ false
+refusal_some R.Room = refl
+refusal_some R.Range = refl
+refusal_some R.Form = refl
+refusal_some R.Line = refl
+refusal_some R.Count = refl
+refusal_some R.Pending = refl
+refusal_some R.Full = refl
+refusal_some R.Place = refl
+refusal_some R.Committed = refl
 
 -- ---- what the first checks imply
 pub record Passed (s : Server) (m : List ℕ) : Type 0 where

@@ -4,27 +4,25 @@
 ghost use Rattle.std.specs.Prelude.{◌≡◌, get_or};
 ghost use Rattle.message.specs.Layout.{author_offset};
 ghost use Rattle.checks.specs.Checks.{first_no};
-ghost use Rattle.server.specs.Server.{in_range, line_checks};
-ghost use Rattle.server.specs.declared.Server.{Server};
+ghost use Rattle.server.specs.Server.{no_of, line_checks};
+
+use server::{Server, ServerRefusal};
 
 // The author of an invoke or a commit.
 fn author_of(m: &[u8]) -> u8
     ensures { result ≡ get_or m.now author_offset 0 }
 {
-    if message::AUTHOR_OFFSET < m.len() {
-        m[message::AUTHOR_OFFSET]
-    } else {
-        0
-    }
+    m.get(message::AUTHOR_OFFSET).copied().unwrap_or(0)
 }
 
-// The checks, in their order; `range` is check 8.
-pub fn line_check(range: bool, line: u8, m: &[u8]) -> u8
-    ensures { (s : Server) → range ≡ in_range s → result ≡ first_no 0 (line_checks s line m.now) }
+// The checks, in their order.
+pub fn line_check(s: &Server, line: u8, m: &[u8]) -> Result<(), ServerRefusal>
+    ensures { no_of result ≡ first_no 0 (line_checks s.now line m.now) }
 {
-    let author = author_of(m);
-    let form = server_form::whole_invoke(m) | server_form::whole_commit(m);
-    let q = checks::also(0, range, 8);
-    let q = checks::also(q, form, 30);
-    checks::also(q, author == line, 31)
+    checks::ask(server_range::in_range(s), ServerRefusal::Range)?;
+    checks::ask(
+        server_form::whole_invoke(m) || server_form::whole_commit(m),
+        ServerRefusal::Form,
+    )?;
+    checks::ask(author_of(m) == line, ServerRefusal::Line)
 }

@@ -1,30 +1,22 @@
 // The slots once the first ones are passed on (document 01: "Places passed on serve again"). Definition: passed_server of server's specs/Server.antt.
 #![tactic(auto)]
 
-ghost use Rattle.std.specs.Prelude.{◌≡◌, ◌++◌, ◌*◌, ◌≤◌, drop, replicate};
+ghost use Rattle.std.specs.Prelude.{◌≡◌, ◌≤◌};
 ghost use Rattle.operation.specs.Operation.{max_pending};
-ghost use Rattle.message.specs.Layout.{digest_length, item_length};
+ghost use Rattle.message.specs.Layout.{max_seq};
+ghost use Rattle.server.specs.Server.{passed_server};
 
-// The items move up by `n`, zeros after them.
-pub fn shift_items(items: &mut [u8; server::ITEMS_LENGTH], n: usize)
-    requires { n ≤ max_pending }
-    ensures { items.new ≡ drop (n * item_length) items.old ++ replicate (n * item_length) 0 }
-{
-    shifts::shift(items, n * message::ITEM_LENGTH);
-}
+use server::Server;
 
-// The statuses move up by `n`, zeros after them.
-pub fn shift_statuses(statuses: &mut [u8; operation::MAX_PENDING], n: usize)
-    requires { n ≤ max_pending }
-    ensures { statuses.new ≡ drop n statuses.old ++ replicate n 0 }
+// Passes the first `n` slots on: the others move up, zeros after them.
+#[tactic(auto, unfolding(server::specs::Server::passed_server))]
+pub fn pass_on(s: &mut Server, n: usize)
+    requires { (s.old.passed ≤ max_seq) × (n ≤ max_pending) }
+    ensures { s.new ≡ passed_server s.old n }
 {
-    shifts::shift(statuses, n);
-}
-
-// The digests or tags move up by `n`, zeros after them.
-pub fn shift_parts(parts: &mut [u8; server::DIGESTS_LENGTH], n: usize)
-    requires { n ≤ max_pending }
-    ensures { parts.new ≡ drop (n * digest_length) parts.old ++ replicate (n * digest_length) 0 }
-{
-    shifts::shift(parts, n * message::DIGEST_LENGTH);
+    s.passed += n as u32;
+    shifts::shift(&mut s.items, n * message::ITEM_LENGTH);
+    shifts::shift(&mut s.statuses, n);
+    shifts::shift(&mut s.digests, n * message::DIGEST_LENGTH);
+    shifts::shift(&mut s.tags, n * message::TAG_LENGTH);
 }

@@ -7,62 +7,50 @@ ghost use Rattle.operation.specs.Operation.{max_pending};
 ghost use Rattle.message.specs.Layout.{digest_length, item_length};
 ghost use Rattle.message.specs.Message.{item_at};
 ghost use Rattle.server.specs.Server.{item_ok, slot_ok, slots_ok};
-ghost use Rattle.server.specs.declared.Server.{Server};
-ghost use Rattle.server.specs.Slots.{with_slots};
+
+use server::Server;
 
 // Whether the digest or tag at `at` is zero.
 fn zero_part(s: &[u8], at: usize) -> bool
     requires { at + digest_length ≤ length s.now }
     ensures { result ≡ all is_zero (take digest_length (drop at s.now)) }
 {
-    let e = at + message::DIGEST_LENGTH;
-    slices::zero_from(&s[at..e], 0)
+    slices::zero_from(&s[at..at + message::DIGEST_LENGTH], 0)
 }
 
 // Whether the operation and author of the item at `at` are allowed.
+#[tactic(auto, unfolding(server::specs::Server::item_ok, message::specs::Message::item_at))]
 fn item_ok_at(items: &[u8], at: usize) -> bool
     requires { at + item_length ≤ length items.now }
     ensures { result ≡ item_ok (item_at items.now at) }
 {
-    let e = operation::read_op(items, at);
-    let author = items[at + message::ITEM_AUTHOR];
-    message::content_ok(e, author)
+    message::content_ok(
+        operation::read_op(items, at),
+        items[at + message::ITEM_AUTHOR],
+    )
 }
 
-// Whether slot `k` of a server with these arrays is in range: its item is allowed, and it has a commit or neither digest nor tag.
-fn slot_ok<'a>(
-    items: &'a [u8; server::ITEMS_LENGTH],
-    statuses: &'a [u8; operation::MAX_PENDING],
-    digests: &'a [u8; server::DIGESTS_LENGTH],
-    tags: &'a [u8; server::TAGS_LENGTH],
-    k: usize,
-) -> bool
+// Whether slot `k` is in range: its item is allowed, and it has a commit or neither digest nor tag.
+#[tactic(auto, unfolding(server::specs::Server::slot_ok, server::specs::Server::slot_item, server::specs::Server::slot_status, server::specs::Server::slot_digest, server::specs::Server::slot_tag))]
+fn slot_ok(s: &Server, k: usize) -> bool
     requires { k < max_pending }
-    ensures { (s : Server) → result ≡ slot_ok (with_slots s items.now statuses.now digests.now tags.now) k }
+    ensures { result ≡ slot_ok s.now k }
 {
-    let i = item_ok_at(items, k * message::ITEM_LENGTH);
-    let d = zero_part(digests, k * message::DIGEST_LENGTH);
-    let t = zero_part(tags, k * message::TAG_LENGTH);
-    i & ((statuses[k] != 0) | (d & t))
+    let i = item_ok_at(&s.items, k * message::ITEM_LENGTH);
+    let d = zero_part(&s.digests, k * message::DIGEST_LENGTH);
+    let t = zero_part(&s.tags, k * message::TAG_LENGTH);
+    i & ((s.statuses[k] != 0) | (d & t))
 }
 
-// Whether the first `n` slots of a server with these arrays are in range.
-pub fn slots_ok<'a>(
-    items: &'a [u8; server::ITEMS_LENGTH],
-    statuses: &'a [u8; operation::MAX_PENDING],
-    digests: &'a [u8; server::DIGESTS_LENGTH],
-    tags: &'a [u8; server::TAGS_LENGTH],
-    n: usize,
-) -> bool
+// Whether the first `n` slots are in range.
+#[tactic(auto, using(server::proofs::Laws::slots_more), unfolding(server::specs::Server::slots_ok))]
+pub fn slots_ok(s: &Server, n: usize) -> bool
     requires { n ≤ max_pending }
-    ensures { (s : Server) → result ≡ slots_ok (with_slots s items.now statuses.now digests.now tags.now) n }
+    ensures { result ≡ slots_ok s.now n }
 {
     let mut ok = true;
-    let mut k = 0;
-    while k < n {
-        let one = slot_ok(items, statuses, digests, tags, k);
-        ok = ok & one;
-        k += 1;
+    for k in 0..n {
+        ok &= slot_ok(s, k);
     }
     ok
 }

@@ -4,23 +4,18 @@
 ghost use Rattle.std.specs.Prelude.{◌≡◌, ◌≤◌};
 ghost use Rattle.operation.specs.Operation.{max_pending};
 ghost use Rattle.server.specs.Server.{unused_ok};
-ghost use Rattle.server.specs.declared.Server.{Server};
-ghost use Rattle.server.specs.Slots.{with_slots};
 
-// Whether the slots past the first `n` of a server with these arrays are zero.
-pub fn unused_ok<'a>(
-    items: &'a [u8; server::ITEMS_LENGTH],
-    statuses: &'a [u8; operation::MAX_PENDING],
-    digests: &'a [u8; server::DIGESTS_LENGTH],
-    tags: &'a [u8; server::TAGS_LENGTH],
-    n: usize,
-) -> bool
+use server::Server;
+
+// Whether the slots past the first `n` are zero.
+#[tactic(auto, unfolding(server::specs::Server::unused_ok))]
+pub fn unused_ok(s: &Server, n: usize) -> bool
     requires { n ≤ max_pending }
-    ensures { (s : Server) → result ≡ unused_ok (with_slots s items.now statuses.now digests.now tags.now) n }
+    ensures { result ≡ unused_ok s.now n }
 {
-    let i = slices::zero_from(items, n * message::ITEM_LENGTH);
-    let u = slices::zero_from(statuses, n);
-    let d = slices::zero_from(digests, n * message::DIGEST_LENGTH);
-    let t = slices::zero_from(tags, n * message::TAG_LENGTH);
+    let i = slices::zero_from(&s.items, n * message::ITEM_LENGTH);
+    let u = slices::zero_from(&s.statuses, n);
+    let d = slices::zero_from(&s.digests, n * message::DIGEST_LENGTH);
+    let t = slices::zero_from(&s.tags, n * message::TAG_LENGTH);
     i & u & d & t
 }

@@ -7,11 +7,11 @@ use Rattle.server_commit_check.proofs.place_ok.Goals as goal
 
 pub returns-then-j-lt-MAX_PENDING : goal.returns-then-j-lt-MAX_PENDING
 unfolding place_ok slot_item
-returns-then-j-lt-MAX_PENDING c s = rw (c.same_op.ensures, c.read_item-i.ensures, c.minus-j.ensures)
+returns-then-j-lt-MAX_PENDING c = rw (c.same_op.ensures, c.read_item-i.ensures, c.saturating_sub-j.ensures)
 
 pub returns-else-j-lt-MAX_PENDING : goal.returns-else-j-lt-MAX_PENDING
 unfolding place_ok
-returns-else-j-lt-MAX_PENDING c s =
+returns-else-j-lt-MAX_PENDING c =
     let a = c.args in
-    let l : a.placed < a.k.seq = omega (arith, c.requires, c.minus-j.ensures, c.if-j-lt-MAX_PENDING.false) in
+    let l : a.s.now.placed < a.k.seq = omega (arith, c.requires, c.saturating_sub-j.ensures, c.if-j-lt-MAX_PENDING.false) in
     rw (lt-leb _ _ l, and-false)

@@ -1,17 +1,17 @@
-use mathlib.Core.Path.{refl, ◌∙◌, sym}
-use borrow.Author.Tests.{lt-leb, le-leb}
+use Rattle.std.proofs.Common.{ℕ, Bool, List, [], ◌∷◌, ◌≡◌, ◌∙◌, ◌&&◌, refl, ap, rules, tests}
 use lib.Dec.{leb}
-use Rattle.slices.proofs.Laws.{all_stop, all_go, all_end}
+use Rattle.std.specs.List.{list_all}
+use Rattle.std.proofs.lemmas.Iterator.{YieldsList-from_slice}
+use Rattle.std.proofs.lemmas.Iterator.Search.{all_from_yields_List}
+use Rattle.slices.specs.Bytes.{all}
 use Rattle.server_range.proofs.counts_ok.Goals as goal
 
-pub loop-i-init : goal.loop-i-init
-loop-i-init c = refl
-
-pub returns-then-counts-i-gt-MAX_COUNT : goal.returns-then-counts-i-gt-MAX_COUNT
-returns-then-counts-i-gt-MAX_COUNT c = sym (c.loop-i.invariant ∙ all_stop (λ x. leb x 1000000) _ _ c.loop-i-test.true (lt-leb _ _ c.if-counts-i-gt-MAX_COUNT.true))
-
-pub loop-i-preserved : goal.loop-i-preserved
-loop-i-preserved c = c.loop-i.invariant ∙ all_go (λ x. leb x 1000000) _ _ c.loop-i-test.true (le-leb _ _ c.if-counts-i-gt-MAX_COUNT.false)
+list_all_is : (p : ℕ → Bool) (s : List ℕ) → list_all p s ≡ all p s
+unfolding all
+list_all_is p [] = refl
+list_all_is p (x ∷ s) = ap (λ b. p x && b) (list_all_is p s)
 
 pub returns : goal.returns
-returns c = sym (c.loop-i.invariant ∙ all_end (λ x. leb x 1000000) _ _ c.loop-i-test.false)
+returns c =
+    let p : ℕ → Bool = λ x. leb x 1000000 in
+    all_from_yields_List p _ _ _ c.all.ensures.ran (YieldsList-from_slice c.args.counts.now cc) (λ x b q k. search (rules, tests)) ∙ list_all_is p c.args.counts.now

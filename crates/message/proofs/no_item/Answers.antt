@@ -1,4 +1,0 @@
-use Rattle.message.proofs.no_item.Goals as goal
-
-pub returns : goal.returns
-returns c = rw c.no_op-op.ensures
