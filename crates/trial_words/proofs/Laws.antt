@@ -1,14 +1,12 @@
 -- Laws of what words ask. Assumes nothing.
 use Prim.Native.Nat.{ℕ, ◌<◌, ◌≤◌}
-use mathlib.Core.Path.{◌≡◌, refl, sym, ◌∙◌}
+use mathlib.Core.Path.{◌≡◌, refl}
 use mathlib.Core.List.{List, [], ◌∷◌}
 use mathlib.Core.Bool.{true, false, and-false}
-use lib.Dec.{leb}
-use borrow.Author.Tests.{leb-true, leb-false, le-leb, lt-leb}
-use Rattle.std.specs.Prelude.{Some, None}
-use Rattle.std.proofs.lemmas.Option.{none-some, cond_some}
+use borrow.Author.Tests.{le-leb, lt-leb}
 use Rattle.slices.specs.Bytes.{same}
 use Rattle.text.proofs.Laws.{either}
+use Rattle.text.proofs.Laws.{within_is, within_not}
 use Rattle.text.specs.Text.{within, number_within}
 use Rattle.trial_words.specs.Words.{Asked, invoke, deliver, other, word_number, from_words}
 
@@ -16,14 +14,6 @@ use Rattle.trial_words.specs.Words.{Asked, invoke, deliver, other, word_number, 
 pub within_word : (w : List ℕ) → number_within 255 w ≡ within 255 (word_number w)
 unfolding number_within
 within_word w = refl
-
-pub within_is : (n x : ℕ) → within 255 n ≡ Some x → (n ≡ x) × (n ≤ 255)
-unfolding within
-within_is n x e = let p = cond_some (leb n 255) n x e in (p.1, leb-true n 255 p.0)
-
-pub within_not : (n : ℕ) → within 255 n ≡ None → 255 < n
-unfolding within
-within_not n e = either (leb n 255) (λ t. absurd (none-some n (sym e ∙ rw t))) (λ t. leb-false n 255 t)
 
 module _ (w v : List ℕ) where
   abbrev two : Asked
