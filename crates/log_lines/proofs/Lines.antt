@@ -1,11 +1,11 @@
 -- Laws of lines, for the functions that cut them. Assumes nothing.
-use Prim.Native.Nat.{ℕ, zero, suc, ◌+◌, ◌-◌, ◌≤◌}
+use Prim.Native.Nat.{ℕ, ◌+◌, ◌≤◌}
 use mathlib.Core.Path.{◌≡◌, refl, sym, ap, ◌∙◌}
 use mathlib.Core.List.{List, [], ◌∷◌, ◌++◌, append-nil, append_assoc}
 use mathlib.Core.Bool.{false}
 use native.Mathlib.Omega.{arith}
-use lib.ListN.{length, get_or, take, drop, drop_of_length-le, length-append, take-append-drop}
-use lib.Seq.{take_all, drop-append-le}
+use lib.ListN.{length, take, drop, drop_of_length-le, length-append, take-append-drop}
+use lib.Seq.{drop-append-le}
 use lib.Dec.{eqb, leb}
 use borrow.Author.Tests.{le-leb, lt-leb, ne_eqb}
 use Rattle.text.specs.Text.{place_of}
@@ -14,51 +14,47 @@ use Rattle.text.proofs.Cuts.{place-most}
 use Rattle.log_lines.specs.Lines.{less_return, first_line, next_line}
 
 -- ---- a carriage return at the end
-pub return_none : (s : List ℕ) → length s ≡ 0 → take (length s - 0) s ≡ less_return s
+pub return_none : (s : List ℕ) → length s ≡ 0 → less_return s ≡ s
 unfolding less_return
 return_none [] h = refl
 return_none (b ∷ s) h = absurd (omega (arith, h))
 
--- the last byte, at n, is one, or is not
-off : (s : List ℕ) (n : ℕ) → length s ≡ suc n → get_or s n 0 ≡ 13 → less_return s ≡ take n s
+-- the last byte is one, or is not
+off : (r : List ℕ) → less_return (r ++ (13 ∷ [])) ≡ r
 unfolding less_return
-off [] n h e = absurd (omega (arith, h))
-off (b ∷ []) zero h e = rw e
-off (b ∷ []) (suc n) h e = absurd (omega (arith, h))
-off (b ∷ c ∷ s) zero h e = absurd (omega (arith, h))
-off (b ∷ c ∷ s) (suc n) h e = ap (λ (x : List ℕ). b ∷ x) (off (c ∷ s) n (omega (arith, h)) e)
+off [] = refl
+off (b ∷ []) = refl
+off (b ∷ c ∷ r) = ap (λ (x : List ℕ). b ∷ x) (off (c ∷ r))
 
-stays : (s : List ℕ) (n : ℕ) → length s ≡ suc n → eqb (get_or s n 0) 13 ≡ false → less_return s ≡ s
+stays : (r : List ℕ) (x : ℕ) → eqb x 13 ≡ false → less_return (r ++ (x ∷ [])) ≡ r ++ (x ∷ [])
 unfolding less_return
-stays [] n h e = absurd (omega (arith, h))
-stays (b ∷ []) zero h e = rw e
-stays (b ∷ []) (suc n) h e = absurd (omega (arith, h))
-stays (b ∷ c ∷ s) zero h e = absurd (omega (arith, h))
-stays (b ∷ c ∷ s) (suc n) h e = ap (λ (x : List ℕ). b ∷ x) (stays (c ∷ s) n (omega (arith, h)) e)
+stays [] x e = rw e
+stays (b ∷ []) x e = rw e
+stays (b ∷ c ∷ r) x e = ap (λ (y : List ℕ). b ∷ y) (stays (c ∷ r) x e)
 
-module _ (s : List ℕ) (h : length s ≡ 0 → ⊥) where
-  pub return_off : get_or s (length s - 1) 0 ≡ 13 → take (length s - 1 - 0) s ≡ less_return s
-  return_off e = let z : length s - 1 - 0 ≡ length s - 1 = omega arith in rw z (sym (off s (length s - 1) (omega (arith, h)) e))
+module _ (s r : List ℕ) (x : ℕ) (h : s ≡ r ++ (x ∷ [])) where
+  pub return_off : x ≡ 13 → less_return s ≡ r
+  return_off e = rw (h, e) (off r)
 
-  pub return_stays : (get_or s (length s - 1) 0 ≡ 13 → ⊥) → take (length s - 0) s ≡ less_return s
-  return_stays e = take_all (length s - 0) s (omega arith) ∙ sym (stays s (length s - 1) (omega (arith, h)) (ne_eqb _ _ e))
+  pub return_stays : (x ≡ 13 → ⊥) → less_return s ≡ s
+  return_stays e = rw h (stays r x (ne_eqb _ _ e))
+
+-- what the last byte says of a carriage return
+pub ruleset return_steps = (return_none, return_off, return_stays)
 
 -- ---- the first line feed at e, the length where there is none
 module _ (t : List ℕ) (e : ℕ) (q : e ≡ 0 + place_of 10 t) where
   pub feed_within : e ≤ length t
   feed_within = omega (arith, q, place-most 10 t)
 
-  pub line_all : e ≡ length t → take (e - 0) t ≡ first_line t
+  pub line_all : e ≡ length t → t ≡ first_line t
   unfolding first_line
-  line_all h =
-      let z : e - 0 ≡ length t = omega (arith, h) in
-      let n = le-leb (length t) (place_of 10 t) (omega (arith, q, h)) in
-      rw (z, n) (take_all (length t) t (omega arith))
+  line_all h = let n = le-leb (length t) (place_of 10 t) (omega (arith, q, h)) in rw n
 
-  pub line_feed : (e ≡ length t → ⊥) → less_return (take (e - 0) t) ≡ first_line t
+  pub line_feed : (e ≡ length t → ⊥) → less_return (take e t) ≡ first_line t
   unfolding first_line
   line_feed h =
-      let z : e - 0 ≡ place_of 10 t = omega (arith, q) in
+      let z : e ≡ place_of 10 t = omega (arith, q) in
       let n = lt-leb (length t) (place_of 10 t) (omega (arith, q, h, feed_within)) in
       rw (z, n)
 

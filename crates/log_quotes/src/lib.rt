@@ -5,7 +5,8 @@
 ghost use Rattle.std.specs.Prelude.{◌≤◌, length};
 ghost use Rattle.log_quotes.specs.Quotes.{start, plain, inside, EndsAt};
 
-// Where a field ends, at its separator or with the line, and whether its quotes are sound. An unsound one is all the rest of the line.
+// Where a field ends, at its separator or with the line, and whether its quotes are sound. An unsound one is all the rest of the line: it
+// has an end too, which callers use, so this is no `Option`.
 #[derive(Clone, Copy)]
 pub struct FieldEnd {
     pub end: usize,
@@ -17,24 +18,22 @@ fn plain_end(s: &[u8], a: usize) -> FieldEnd
     requires { a ≤ length s.now }
     ensures { EndsAt plain s.now a result }
 {
-    let mut i = a;
-    while i < s.len() {
-        if s[i] == 44 {
+    for i in a..s.len() {
+        if s[i] == b',' {
             return FieldEnd {
                 end: i,
                 sound: true,
             };
         }
-        if s[i] == 34 {
+        if s[i] == b'"' {
             return FieldEnd {
                 end: s.len(),
                 sound: false,
             };
         }
-        i += 1;
     }
     FieldEnd {
-        end: i,
+        end: s.len(),
         sound: true,
     }
 }
@@ -46,7 +45,7 @@ fn quoted_end(s: &[u8], a: usize) -> FieldEnd
 {
     let mut i = a;
     loop {
-        let q = text::find(s, i, 34);
+        let q = text::find(s, i, b'"');
         if q == s.len() {
             return FieldEnd {
                 end: q,
@@ -60,14 +59,14 @@ fn quoted_end(s: &[u8], a: usize) -> FieldEnd
                 sound: true,
             };
         }
-        let at_comma = s[c] == 44;
+        let at_comma = s[c] == b',';
         if at_comma {
             return FieldEnd {
                 end: c,
                 sound: true,
             };
         }
-        if s[c] != 34 {
+        if s[c] != b'"' {
             return FieldEnd {
                 end: s.len(),
                 sound: false,
@@ -88,7 +87,7 @@ pub fn field_end(s: &[u8], a: usize) -> FieldEnd
             sound: true,
         };
     }
-    if s[a] == 34 {
+    if s[a] == b'"' {
         return quoted_end(s, a + 1);
     }
     plain_end(s, a)

@@ -4,17 +4,14 @@ use mathlib.Core.Path.{◌≡◌, refl, sym, ap, ◌∙◌}
 use mathlib.Core.List.{List}
 use mathlib.Core.Bool.{cond}
 use lib.Dec.{eqb}
+use Rattle.std.specs.Prelude.{Some, None, Ok, Err}
 use Rattle.text.proofs.Laws.{either}
 use Rattle.log_entry.specs.Entry.{in_ranges}
 use Rattle.log_columns.specs.declared.Columns.{Columns}
 use Rattle.log_columns.specs.Columns.{header_ok}
-use Rattle.meter_log.specs.declared.Header.{Header}
-use Rattle.meter_log.specs.declared.Header.TheVariants as H
 use Rattle.meter_log.specs.declared.Refusal.{Refusal}
 use Rattle.meter_log.specs.declared.Refusal.TheVariants as N
-use Rattle.meter_log.specs.declared.Reading.{Reading}
-use Rattle.meter_log.specs.declared.Reading.TheVariants as R
-use Rattle.meter_log.specs.Reading.{refusal_no, header_of, reading_of, line_ok, read_columns, read_line}
+use Rattle.meter_log.specs.Reading.{Header, Reading, refusal_no, header_of, reading_of, line_ok, read_columns, read_line}
 use Rattle.meter_log.specs.Told.{Told, named, made, refused, header_told, reading_told, first_told, values_told, columns_told, line_told}
 
 -- ---- what is told
@@ -32,19 +29,19 @@ columns_told_lem c l = either (line_ok c l) (λ e. rw e (values_told_lem _ _ _))
 
 pub line_told_lem : (h : Header) (l : List ℕ) → reading_told (read_line h l) ≡ line_told h l
 unfolding read_line line_told
-line_told_lem (H.Named c) l = columns_told_lem c l
-line_told_lem H.Refused l = refl
+line_told_lem (Some c) l = columns_told_lem c l
+line_told_lem None l = refl
 
 -- ---- one to one
 header_from : Told → Header
-header_from (named c) = H.Named c
-header_from (made e) = H.Refused
-header_from (refused n) = H.Refused
+header_from (named c) = Some c
+header_from (made e) = None
+header_from (refused n) = None
 
 header_back : (h : Header) → header_from (header_told h) ≡ h
 unfolding header_from
-header_back (H.Named c) = refl
-header_back H.Refused = refl
+header_back (Some c) = refl
+header_back None = refl
 
 pub header_once : (h g : Header) → header_told h ≡ header_told g → h ≡ g
 header_once h g e = sym (header_back h) ∙ ap header_from e ∙ header_back g
@@ -62,14 +59,14 @@ pub refusal_once : (v w : Refusal) → refusal_no v ≡ refusal_no w → v ≡ w
 refusal_once v w e = sym (refusal_back v) ∙ ap refusal_from e ∙ refusal_back w
 
 reading_from : Told → Reading
-reading_from (named c) = R.Refused N.Header
-reading_from (made e) = R.Made e
-reading_from (refused n) = R.Refused (refusal_from n)
+reading_from (named c) = Err N.Header
+reading_from (made e) = Ok e
+reading_from (refused n) = Err (refusal_from n)
 
 reading_back : (r : Reading) → reading_from (reading_told r) ≡ r
 unfolding reading_from
-reading_back (R.Made e) = refl
-reading_back (R.Refused w) = ap R.Refused (refusal_back w)
+reading_back (Ok e) = refl
+reading_back (Err w) = ap Err (refusal_back w)
 
 pub reading_once : (r s : Reading) → reading_told r ≡ reading_told s → r ≡ s
 reading_once r s e = sym (reading_back r) ∙ ap reading_from e ∙ reading_back s

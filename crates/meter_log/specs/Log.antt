@@ -1,9 +1,7 @@
 -- A whole log: document 02, Q-5.
 use Rattle.std.specs.Prelude.{ℕ, List, [], ◌∷◌}
 use Rattle.log_lines.specs.Lines.{lines}
-use Rattle.meter_log.specs.declared.Header.{Header}
-use Rattle.meter_log.specs.declared.Reading.{Reading}
-use Rattle.meter_log.specs.Reading.{header_of, read_line}
+use Rattle.meter_log.specs.Reading.{Header, Reading, header_of, read_line}
 
 -- what each line comes to under a first line
 unfoldable pub read_all : Header → List (List ℕ) → List Reading

@@ -1,16 +1,12 @@
 -- What a line of the log is told: document 02's numbers and values for each case of the enums.
-use Rattle.std.specs.Prelude.{ℕ, List, cond}
+use Rattle.std.specs.Prelude.{ℕ, List, cond, Some, None, Ok, Err}
 use Rattle.operation.specs.declared.Operation.{Operation}
 use Rattle.log_number.specs.Number.{number, temperature}
 use Rattle.log_entry.specs.Entry.{in_ranges, reported}
 use Rattle.log_columns.specs.declared.Columns.{Columns}
 use Rattle.log_columns.specs.Columns.{header_ok, columns_of}
 use Rattle.log_values.specs.Values.{under}
-use Rattle.meter_log.specs.declared.Header.{Header}
-use Rattle.meter_log.specs.declared.Header.TheVariants as H
-use Rattle.meter_log.specs.declared.Reading.{Reading}
-use Rattle.meter_log.specs.declared.Reading.TheVariants as R
-use Rattle.meter_log.specs.Reading.{refusal_no, line_ok}
+use Rattle.meter_log.specs.Reading.{Header, Reading, refusal_no, line_ok}
 
 -- the columns that a first line names, the entry that a later one becomes, the number of a check that one does not pass
 pub data Told : Type 0 where
@@ -19,12 +15,12 @@ pub data Told : Type 0 where
   refused : ℕ → Told
 
 abbrev pub header_told : Header → Told
-header_told (H.Named c) = named c
-header_told H.Refused = refused 40
+header_told (Some c) = named c
+header_told None = refused 40
 
 abbrev pub reading_told : Reading → Told
-reading_told (R.Made e) = made e
-reading_told (R.Refused why) = refused (refusal_no why)
+reading_told (Ok e) = made e
+reading_told (Err why) = refused (refusal_no why)
 
 -- "40 first, unless the first line …"
 unfoldable pub first_told : List ℕ → Told
@@ -41,5 +37,5 @@ columns_told c l =
 
 -- a line under a first line: "40 first …; 41 next …; 42 last"
 unfoldable pub line_told : Header → List ℕ → Told
-line_told H.Refused l = refused 40
-line_told (H.Named c) l = columns_told c l
+line_told None l = refused 40
+line_told (Some c) l = columns_told c l

@@ -4,19 +4,14 @@
 
 ghost use Rattle.std.specs.Prelude.{◌≡◌};
 ghost use Rattle.log_lines.specs.Lines.{first_line};
-ghost use Rattle.meter_log.specs.Reading.{refusal_no, header_of, reading_of, read_columns, read_line};
+ghost use Rattle.meter_log.specs.Reading.{refusal_no, header_of, entry_found, read_columns, read_line};
 ghost use Rattle.meter_log.specs.Told.{header_told, reading_told, first_told, line_told};
 
 use log_columns::Columns;
+use log_values::Values;
 use operation::Operation;
 
-// What the first line comes to: columns, or refusal 40 of every line under it.
-#[derive(Clone, Copy)]
-pub enum Header {
-    Named(Columns),
-    Refused,
-}
-
+// Why a line is refused.
 #[derive(Clone, Copy)]
 pub enum Refusal {
     Header,
@@ -24,74 +19,68 @@ pub enum Refusal {
     Number,
 }
 
-// What a later line comes to: an operation of kind 5, whose count is left to `invoke` and is 0 here, or a refusal.
-#[derive(Clone, Copy)]
-pub enum Reading {
-    Made(Operation),
-    Refused(Refusal),
-}
-
-pub fn refusal_number(why: Refusal) -> u8
-    ensures { result ≡ refusal_no why }
-{
-    match why {
-        Refusal::Header => 40,
-        Refusal::Fields => 41,
-        Refusal::Number => 42,
+impl Refusal {
+    // The check's number.
+    pub fn number(self) -> u8
+        ensures { result ≡ refusal_no self }
+    {
+        match self {
+            Refusal::Header => 40,
+            Refusal::Fields => 41,
+            Refusal::Number => 42,
+        }
     }
 }
 
-// The operation with these three values, or refusal 42.
-fn reading_of(cell: u32, flow: u32, last: u32) -> Reading
-    ensures { result ≡ reading_of cell flow last }
+// The operation with these three values, where each is one and in its range.
+#[tactic(auto, using(crate::proofs::Laws::entry_steps))]
+fn entry_in(v: Values) -> Option<Operation>
+    ensures { result ≡ entry_found v.cell v.flow v.last }
 {
-    if log_entry::in_ranges(cell, flow, last) {
-        Reading::Made(log_entry::entry_of(cell, flow, last))
-    } else {
-        Reading::Refused(Refusal::Number)
-    }
+    log_entry::entry_of(v.cell?, v.flow?, v.last?)
 }
 
 // What the line `s` comes to under these columns.
-fn read_columns(c: Columns, s: &[u8]) -> Reading
+#[tactic(auto, using(crate::proofs::Laws::reading_steps))]
+fn read_columns(c: Columns, s: &[u8]) -> Result<Operation, Refusal>
     ensures { result ≡ read_columns c s.now }
 {
-    let v = log_values::values_in(c, s);
-    if (v.fields != 0) & (v.fields == c.count) {
-        return reading_of(v.cell, v.flow, v.last);
+    let v = log_values::values_in(c, s).ok_or(Refusal::Fields)?;
+    if v.fields != c.count {
+        return Err(Refusal::Fields);
     }
-    Reading::Refused(Refusal::Fields)
+    entry_in(v).ok_or(Refusal::Number)
 }
 
-// What the line `s` comes to as the first.
-pub fn header_in(s: &[u8]) -> Header
+// What the line `s` comes to as the first: columns, or none, which is refusal 40 of every line under it.
+pub fn header_in(s: &[u8]) -> Option<Columns>
     ensures { result ≡ header_of s.now }
 {
     if log_columns::header_ok(s) {
-        return Header::Named(log_columns::columns_in(s));
+        Some(log_columns::columns_in(s))
+    } else {
+        None
     }
-    Header::Refused
 }
 
-// What the line `s` comes to under a first line.
-pub fn read_in(h: Header, s: &[u8]) -> Reading
+// What the line `s` comes to under a first line: an operation of kind 5, whose count is left to `invoke` and is 0 here, or a refusal.
+#[tactic(auto, using(crate::proofs::Laws::line_steps))]
+pub fn read_in(h: Option<Columns>, s: &[u8]) -> Result<Operation, Refusal>
     ensures { result ≡ read_line h s.now }
 {
-    match h {
-        Header::Named(c) => read_columns(c, s),
-        Header::Refused => Reading::Refused(Refusal::Header),
-    }
+    let c = h.ok_or(Refusal::Header)?;
+    read_columns(c, s)
 }
 
 // What the line at the front of `text` comes to as the first.
-pub fn read_header(text: &[u8]) -> Header
+pub fn read_header(text: &[u8]) -> Option<Columns>
     ensures { header_told result ≡ first_told (first_line text.now) }
 {
     header_in(log_lines::line(text))
 }
 
 // What the line at the front of `text` comes to under a first line.
-pub fn read_line(h: Header, text: &[u8]) -> Reading
+pub fn read_line(h: Option<Columns>, text: &[u8]) -> Result<Operation, Refusal>
     ensures { reading_told result ≡ line_told h (first_line text.now) }
 {
     read_in(h, log_lines::line(text))

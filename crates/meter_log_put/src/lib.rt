@@ -1,5 +1,5 @@
-// What the log program prints for a line, written. Each function writes from `at` on, and answers the place after it. Definitions:
-// specs/Text.antt.
+// What the log program prints for a line, written. Definitions: specs/Text.antt. With no heap, each function writes into the caller's
+// buffer from `at` on, and answers the place after it.
 #![tactic(auto)]
 
 ghost use Rattle.std.specs.Prelude.{◌≡◌, ◌+◌, ◌≤◌, [], ◌∷◌, ◌++◌, length};
@@ -29,7 +29,7 @@ fn put_refused(out: &mut [u8], at: usize, why: Refusal) -> usize
         × (result ≤ at + 13) }
 {
     let i = text_put::put_bytes(out, at, b"no");
-    text_put::put_datum(out, i, meter_log::refusal_number(why) as u32)
+    text_put::put_datum(out, i, u32::from(why.number()))
 }
 
 // What is told of a line.

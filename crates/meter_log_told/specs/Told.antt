@@ -1,12 +1,8 @@
 -- What the log program tells of each line.
-use Rattle.std.specs.Prelude.{ℕ, List, Bool, cond, length, ltb}
+use Rattle.std.specs.Prelude.{ℕ, List, Bool, cond, length, ltb, Some, None, Ok, Err}
 use Rattle.log_lines.specs.Lines.{less_return}
-use Rattle.meter_log.specs.declared.Header.{Header}
-use Rattle.meter_log.specs.declared.Header.TheVariants as H
 use Rattle.meter_log.specs.declared.Refusal.TheVariants as N
-use Rattle.meter_log.specs.declared.Reading.{Reading}
-use Rattle.meter_log.specs.declared.Reading.TheVariants as R
-use Rattle.meter_log.specs.Reading.{header_of, read_line}
+use Rattle.meter_log.specs.Reading.{Header, Reading, header_of, read_line}
 use Rattle.meter_log_told.specs.declared.Log.{Log}
 use Rattle.meter_log_told.specs.declared.Log.TheVariants as L
 use Rattle.meter_log_told.specs.declared.LineTold.{LineTold}
@@ -15,12 +11,12 @@ use Rattle.meter_log_told.specs.declared.LogStep.{LogStep}
 
 -- ---- a line
 unfoldable pub tell_header : Header → LineTold
-tell_header (H.Named c) = T.Header
-tell_header H.Refused = T.Refused N.Header
+tell_header (Some c) = T.Header
+tell_header None = T.Refused N.Header
 
 unfoldable pub tell_reading : Reading → LineTold
-tell_reading (R.Made e) = T.Made e
-tell_reading (R.Refused why) = T.Refused why
+tell_reading (Ok e) = T.Made e
+tell_reading (Err why) = T.Refused why
 
 -- a line of the log, and the log after it: the first is the header, and the later ones are read under it
 unfoldable pub tell_line : Log → List ℕ → LogStep

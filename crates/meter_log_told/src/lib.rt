@@ -5,7 +5,8 @@ ghost use Rattle.std.specs.Prelude.{◌≡◌};
 ghost use Rattle.meter_log_told.specs.declared.Log.TheVariants.{Start, Under};
 ghost use Rattle.meter_log_told.specs.Told.{tell_header, tell_reading, tell_line, tell_long, tell_whole, tell_last};
 
-use meter_log::{Header, Reading, Refusal};
+use log_columns::Columns;
+use meter_log::Refusal;
 use operation::Operation;
 
 // The most bytes that a line may have, its carriage return counted and its line feed not.
@@ -20,11 +21,11 @@ pub enum LineTold {
     Long,
 }
 
-// The log between two lines: before the first; under the first; under a first line that was over_long.
+// The log between two lines: before the first; under the first; under a first line that was over-long.
 #[derive(Clone, Copy)]
 pub enum Log {
     Start,
-    Under(Header),
+    Under(Option<Columns>),
     Long,
 }
 
@@ -34,25 +35,28 @@ pub struct LogStep {
     pub told: LineTold,
 }
 
-fn tell_header(h: Header) -> LineTold
+#[tactic(auto, unfolding(crate::specs::Told::tell_header))]
+fn tell_header(h: Option<Columns>) -> LineTold
     ensures { result ≡ tell_header h }
 {
     match h {
-        Header::Named(_) => LineTold::Header,
-        Header::Refused => LineTold::Refused(Refusal::Header),
+        Some(_) => LineTold::Header,
+        None => LineTold::Refused(Refusal::Header),
     }
 }
 
-fn tell_reading(reading: Reading) -> LineTold
+#[tactic(auto, unfolding(crate::specs::Told::tell_reading))]
+fn tell_reading(reading: Result<Operation, Refusal>) -> LineTold
     ensures { result ≡ tell_reading reading }
 {
     match reading {
-        Reading::Made(e) => LineTold::Made(e),
-        Reading::Refused(why) => LineTold::Refused(why),
+        Ok(e) => LineTold::Made(e),
+        Err(why) => LineTold::Refused(why),
     }
 }
 
 // The first line.
+#[tactic(auto, unfolding(crate::specs::Told::tell_line))]
 fn tell_first(s: &[u8]) -> LogStep
     ensures { result ≡ tell_line Start s.now }
 {
@@ -64,7 +68,8 @@ fn tell_first(s: &[u8]) -> LogStep
 }
 
 // A line under the first.
-fn tell_later(h: Header, s: &[u8]) -> LogStep
+#[tactic(auto, unfolding(crate::specs::Told::tell_line))]
+fn tell_later(h: Option<Columns>, s: &[u8]) -> LogStep
     ensures { result ≡ tell_line (Under h) s.now }
 {
     LogStep {
@@ -74,6 +79,7 @@ fn tell_later(h: Header, s: &[u8]) -> LogStep
 }
 
 // The line `s`, which is cut already.
+#[tactic(auto, unfolding(crate::specs::Told::tell_line))]
 fn tell_line(log: Log, s: &[u8]) -> LogStep
     ensures { result ≡ tell_line log s.now }
 {
@@ -87,23 +93,18 @@ fn tell_line(log: Log, s: &[u8]) -> LogStep
     }
 }
 
-// An over_long line.
+// An over-long line. Under a first line that is one, no line can be read.
+#[tactic(auto, unfolding(crate::specs::Told::tell_long))]
 pub fn tell_long(log: Log) -> LogStep
     ensures { result ≡ tell_long log }
 {
-    match log {
-        Log::Start => LogStep {
-            log: Log::Long,
-            told: LineTold::Long,
-        },
-        Log::Under(h) => LogStep {
-            log: Log::Under(h),
-            told: LineTold::Long,
-        },
-        Log::Long => LogStep {
-            log: Log::Long,
-            told: LineTold::Long,
-        },
+    let after = match log {
+        Log::Start => Log::Long,
+        Log::Under(_) | Log::Long => log,
+    };
+    LogStep {
+        log: after,
+        told: LineTold::Long,
     }
 }
 

@@ -1,5 +1,5 @@
 -- The place of a byte, the pieces between separators, and decimal numbers.
-use Rattle.std.specs.Prelude.{ℕ, zero, suc, ◌+◌, ◌-◌, ◌*◌, ◌/◌, ◌%◌, min, List, [], ◌∷◌, ◌++◌, Bool, true, false, cond, ◌&&◌, leb, eqb}
+use Rattle.std.specs.Prelude.{ℕ, zero, suc, ◌+◌, ◌-◌, ◌*◌, ◌/◌, ◌%◌, min, List, [], ◌∷◌, ◌++◌, Bool, true, false, cond, ◌&&◌, leb, eqb, Option, Some, None}
 use Rattle.slices.specs.Bytes.{all}
 
 -- how many elements stand before the first x: all where there is none
@@ -32,6 +32,14 @@ horner v (c ∷ cs) = horner (v * 10 + (c - 48)) cs
 -- the number that the bytes spell, one or more decimal digits: cap for one above cap, and for what is no number
 unfoldable pub number_of : ℕ → List ℕ → ℕ
 number_of cap s = cond (non_empty s && all is_digit s) (min (horner 0 s) cap) cap
+
+-- n where it is at most max
+unfoldable pub within : ℕ → ℕ → Option ℕ
+within max n = cond (leb n max) (Some n) None
+
+-- the number that the bytes spell, where they spell one and it is at most max
+unfoldable pub number_within : ℕ → List ℕ → Option ℕ
+number_within max s = within max (number_of (suc max) s)
 
 -- the decimal digits of a number, at most the given number of them
 unfoldable pub digits : ℕ → ℕ → List ℕ

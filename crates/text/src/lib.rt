@@ -1,63 +1,39 @@
 // Text in bytes: the place of a byte, and decimal numbers. Definitions: specs/Text.antt.
 #![tactic(auto)]
 
-ghost use Rattle.std.specs.Prelude.{◌≡◌, ◌+◌, ◌-◌, ◌*◌, ◌<◌, ◌≤◌, min, length, drop, nat_abs};
+ghost use Rattle.std.specs.Prelude.{◌≡◌, ◌+◌, ◌≤◌, length, drop};
 ghost use Rattle.slices.specs.Bytes.{put};
-ghost use Rattle.text.specs.Text.{place_of, number_of, decimal_of};
+ghost use Rattle.text.specs.Text.{place_of, number_within, decimal_of};
 
 // The place of the first `x` from `from` on: the length where there is none, `from` where that is past the end.
 #[tactic(auto, using(crate::proofs::Laws::place_steps))]
 pub fn find(s: &[u8], from: usize, x: u8) -> usize
     ensures { result ≡ from + place_of x (drop from s.now) }
 {
-    let mut i = from;
-    while i < s.len() {
+    for i in from..s.len() {
         if s[i] == x {
             return i;
         }
-        i += 1;
     }
-    i
+    s.len().max(from)
 }
 
-// The value after one more digit, held at `cap`.
-fn longer(v: u32, digit: u8, cap: u32) -> u32
-    requires { (48 ≤ digit) × (digit ≤ 57) }
-    ensures { result ≡ min (v * 10 + (digit - 48)) cap }
-{
-    let w = v as u64 * 10 + (digit - 48) as u64;
-    if w < cap as u64 { w as u32 } else { cap }
-}
-
-// The number that the bytes spell, held at `cap`; `cap` for what is no number.
+// The number that the bytes spell, where they spell one and it is at most `max`.
 #[tactic(auto, using(crate::proofs::Laws::number_steps))]
-pub fn number(s: &[u8], cap: u32) -> u32
-    ensures { result ≡ number_of cap s.now }
+pub fn number(s: &[u8], max: u32) -> Option<u32>
+    ensures { result ≡ number_within max s.now }
 {
-    if s.len() == 0 {
-        return cap;
+    if s.is_empty() {
+        return None;
     }
     let mut v: u32 = 0;
-    let mut i = 0;
-    while i < s.len() {
-        let d = s[i];
-        if d < 48 {
-            return cap;
+    for &d in s {
+        if !d.is_ascii_digit() {
+            return None;
         }
-        if 57 < d {
-            return cap;
-        }
-        v = longer(v, d, cap);
-        i += 1;
+        v = v.checked_mul(10)?.checked_add(u32::from(d - b'0'))?;
     }
-    v
-}
-
-// A number without its sign.
-pub fn magnitude(z: i16) -> u32
-    ensures { result ≡ nat_abs z }
-{
-    if z < 0 { (-1 - z) as u32 + 1 } else { z as u32 }
+    if v <= max { Some(v) } else { None }
 }
 
 // Writes a number into `out` from `at` on, and answers the place after it.

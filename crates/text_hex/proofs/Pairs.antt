@@ -1,46 +1,67 @@
 -- Bytes in hexadecimal: a pair at a time, written and read. Assumes nothing.
 use Prim.Native.Nat.{ℕ, zero, suc, ◌+◌, ◌-◌, ◌*◌, ◌/◌, ◌%◌, ◌<◌, ◌≤◌, min}
-use mathlib.Core.Path.{◌≡◌, refl, sym, ap, ◌∙◌}
-use mathlib.Core.List.{List, [], ◌∷◌, ◌++◌}
-use mathlib.Core.Bool.{Bool, true, false, cond, and-false}
+use mathlib.Core.Path.{◌≡◌, refl, sym, ap, subst, ◌∙◌}
+use mathlib.Core.List.{List, [], ◌∷◌}
+use mathlib.Core.Bool.{Bool, true, false, and-false}
 use native.Mathlib.Numerals.{add-one}
 use native.Mathlib.Omega.{arith}
-use lib.ListN.{length, get_or, take, drop, set, drop_of_length-le, length-drop}
+use lib.ListN.{length, get_or, drop, set, length-drop}
 use lib.Dec.{leb}
 use lib.Seq.{drop-cons, drop-drop, get_or-drop, paste, paste-zero, paste-suc, length-paste, take-length}
-use borrow.Author.Tests.{le-leb, lt-leb}
+use borrow.Author.Tests.{le-leb, lt-leb, leb-true, leb-false}
+use Rattle.std.proofs.lemmas.Option.{none-some, cond_some}
+use Rattle.std.specs.Prelude.{Some, None}
 use Rattle.slices.specs.Bytes.{put}
-use Rattle.text_hex.specs.Hex.{hex_digit, hex_value, hex_of, unhex_of}
+use Rattle.text_hex.specs.Hex.{hex_digit, hex_value, value_of, hex_of, unhex_of}
+
+either : {C : Type 0} (b : Bool) → (b ≡ true → C) → (b ≡ false → C) → C
+either true f g = f refl
+either false f g = g refl
 
 -- ---- digits
-pub digit_low : (d : ℕ) → d ≤ 9 → 48 + d ≡ hex_digit d
-unfolding hex_digit
-digit_low d h = rw (le-leb d 9 h)
-
-pub digit_high : (d : ℕ) → 9 < d → 87 + d ≡ hex_digit d
-unfolding hex_digit
-digit_high d h = rw (lt-leb d 9 h)
-
 module _ (c : ℕ) where
-  pub value-under : c < 48 → hex_value c ≡ 16
-  unfolding hex_value
+  pub value_decimal : 48 ≤ c → c ≤ 57 → value_of c ≡ Some (c - 48)
+  unfolding value_of hex_value
+  value_decimal h k = let g : c - 48 ≤ 15 = omega (arith, k) in rw (le-leb 48 c h, le-leb c 57 k, le-leb (c - 48) 15 g)
+
+  pub value_letter : 97 ≤ c → c ≤ 102 → value_of c ≡ Some (c - 97 + 10)
+  unfolding value_of hex_value
+  value_letter h k =
+      let g : 57 < c = omega (arith, h) in
+      let f : c - 87 ≤ 15 = omega (arith, k) in
+      let e : c - 87 ≡ c - 97 + 10 = omega (arith, h) in
+      rw (lt-leb c 57 g, le-leb 97 c h, le-leb c 102 k, and-false, le-leb (c - 87) 15 f, e)
+
+  pub value-under : c < 48 → value_of c ≡ None
+  unfolding value_of hex_value
   value-under h = let g : c < 97 = omega (arith, h) in rw (lt-leb 48 c h, lt-leb 97 c g)
 
-  pub value_decimal : 48 ≤ c → c ≤ 57 → hex_value c ≡ c - 48
-  unfolding hex_value
-  value_decimal h k = rw (le-leb 48 c h, le-leb c 57 k)
-
-  pub value-between : 57 < c → c < 97 → hex_value c ≡ 16
-  unfolding hex_value
+  pub value-between : 57 < c → c < 97 → value_of c ≡ None
+  unfolding value_of hex_value
   value-between h k = rw (lt-leb c 57 h, lt-leb 97 c k, and-false)
 
-  pub value_letter : 97 ≤ c → c ≤ 102 → hex_value c ≡ c - 87
-  unfolding hex_value
-  value_letter h k = let g : 57 < c = omega (arith, h) in rw (lt-leb c 57 g, le-leb 97 c h, le-leb c 102 k, and-false)
-
-  pub value_over : 102 < c → hex_value c ≡ 16
-  unfolding hex_value
+  pub value_over : 102 < c → value_of c ≡ None
+  unfolding value_of hex_value
   value_over h = let g : 57 < c = omega (arith, h) in rw (lt-leb c 57 g, lt-leb c 102 h, and-false, and-false)
+
+  module _ {v : ℕ} (e : Some v ≡ value_of c) where
+    both : (leb (hex_value c) 15 ≡ true) × (hex_value c ≡ v)
+    unfolding value_of
+    both = cond_some (leb (hex_value c) 15) (hex_value c) v (sym e)
+
+    pub value_is : v ≡ hex_value c
+    value_is = sym both.1
+
+    pub value_digit : hex_value c ≤ 15
+    value_digit = leb-true _ 15 both.0
+
+  pub value_none : None ≡ value_of c → 15 < hex_value c
+  unfolding value_of
+  value_none e =
+      either (leb (hex_value c) 15) (λ t. absurd (none-some (hex_value c) (e ∙ rw t))) (λ t. leb-false _ 15 t)
+
+-- what a byte's value is found to be
+pub ruleset value_steps = (value_decimal, value_letter, value-under, value-between, value_over)
 
 -- ---- written
 pub hex_length : (s : List ℕ) → length (hex_of s) ≡ 2 * length s
@@ -148,7 +169,7 @@ module _ {z s : List ℕ} {i : ℕ} {out : List ℕ} (w : Took z s i out) where
       let n : length (drop i (unhex_of s)) ≡ 0 = ap length (w.rest ∙ e) in
       (omega (arith, length-drop i (unhex_of s)), w.same)
 
-  pub took_end : length s / 2 ≤ i → Answer z s out i
+  took_end : length s / 2 ≤ i → Answer z s out i
   took_end h = took_stop (short (drop (2 * i) s) (omega (arith, length-drop (2 * i) s)))
 
   pub took-high : i < length s / 2 → 15 < hex_value (get_or s (2 * i) 0) → Answer z s out i
@@ -157,8 +178,16 @@ module _ {z s : List ℕ} {i : ℕ} {out : List ℕ} (w : Took z s i out) where
   pub took-low : i < length s / 2 → 15 < hex_value (get_or s (2 * i + 1) 0) → Answer z s out i
   took-low h b = took_stop (bytes_low s i (omega arith) b)
 
-  pub took-full : length z ≤ i → Answer z s out i
+  took-full : length z ≤ i → Answer z s out i
   took-full h = let k = w.within in let r = w.room in (omega arith, w.same)
+
+  pub took_through : (n : ℕ) → n ≡ min (length z) (length s / 2) → i ≤ n → n ≤ i → Answer z s out n
+  took_through n e h k =
+      let q : i ≡ n = omega (arith, h, k) in
+      subst (Answer z s out) q
+      (either (leb (length z) i)
+      (λ t. took-full (leb-true (length z) i t))
+      (λ t. took_end (omega (arith, e, q, leb-false (length z) i t))))
 
   pub took_more :
       i < length z →

@@ -1,5 +1,5 @@
 -- Bytes in hexadecimal.
-use Rattle.std.specs.Prelude.{ℕ, ◌+◌, ◌-◌, ◌*◌, ◌/◌, ◌%◌, List, [], ◌∷◌, cond, ◌&&◌, leb}
+use Rattle.std.specs.Prelude.{ℕ, ◌+◌, ◌-◌, ◌*◌, ◌/◌, ◌%◌, List, [], ◌∷◌, cond, ◌&&◌, leb, Option, Some, None}
 
 -- the hexadecimal digit, in lower case, of a number below 16
 unfoldable pub hex_digit : ℕ → ℕ
@@ -8,6 +8,10 @@ hex_digit d = cond (leb d 9) (48 + d) (87 + d)
 -- the number whose hexadecimal digit a byte is: 16 for what is none
 unfoldable pub hex_value : ℕ → ℕ
 hex_value c = cond (leb 48 c && leb c 57) (c - 48) (cond (leb 97 c && leb c 102) (c - 87) 16)
+
+-- the same, where the byte is a digit
+unfoldable pub value_of : ℕ → Option ℕ
+value_of c = cond (leb (hex_value c) 15) (Some (hex_value c)) None
 
 -- bytes in hexadecimal, two digits each
 unfoldable pub hex_of : List ℕ → List ℕ

@@ -4,33 +4,28 @@
 ghost use Rattle.std.specs.Prelude.{◌≡◌, ◌+◌, ◌*◌, ◌<◌, ◌≤◌, min, length};
 ghost use Rattle.std.proofs.Math.Seq.{paste};
 ghost use Rattle.slices.specs.Bytes.{put};
-ghost use Rattle.text_hex.specs.Hex.{hex_digit, hex_value, hex_of, unhex_of};
+ghost use Rattle.text_hex.specs.Hex.{hex_digit, value_of, hex_of, unhex_of};
 
 #[tactic(auto, unfolding(crate::specs::Hex::hex_digit))]
 fn hex_digit(d: u8) -> u8
     requires { d < 16 }
     ensures { result ≡ hex_digit d }
 {
-    if d <= 9 { 48 + d } else { 87 + d }
+    match d {
+        0..=9 => b'0' + d,
+        _ => b'a' + (d - 10),
+    }
 }
 
-#[tactic(auto, unfolding(crate::specs::Hex::hex_value))]
-fn hex_value(c: u8) -> u8
-    ensures { result ≡ hex_value c }
+#[tactic(auto, using(crate::proofs::Pairs::value_steps))]
+fn hex_value(c: u8) -> Option<u8>
+    ensures { result ≡ value_of c }
 {
-    if c < 48 {
-        return 16;
+    match c {
+        b'0'..=b'9' => Some(c - b'0'),
+        b'a'..=b'f' => Some(c - b'a' + 10),
+        _ => None,
     }
-    if c <= 57 {
-        return c - 48;
-    }
-    if c < 97 {
-        return 16;
-    }
-    if c <= 102 {
-        return c - 87;
-    }
-    16
 }
 
 // Writes bytes in hexadecimal into `out` from `at` on, and answers the place after them.
@@ -39,12 +34,10 @@ pub fn hex(out: &mut [u8], at: usize, s: &[u8]) -> usize
     ensures { (result ≡ at + 2 * length s.now) × (out.new ≡ put out.old at (hex_of s.now)) }
 {
     let mut p = at;
-    let mut i = 0;
-    while i < s.len() {
-        out[p] = hex_digit(s[i] / 16);
-        out[p + 1] = hex_digit(s[i] % 16);
+    for &x in s {
+        out[p] = hex_digit(x / 16);
+        out[p + 1] = hex_digit(x % 16);
         p += 2;
-        i += 1;
     }
     p
 }
@@ -54,21 +47,15 @@ pub fn unhex(s: &[u8], out: &mut [u8]) -> usize
     ensures { (result ≡ min (length (unhex_of s.now)) (length out.old))
         × (out.new ≡ paste out.old 0 (unhex_of s.now) result) }
 {
-    let mut i = 0;
-    while i < out.len() {
-        if s.len() / 2 <= i {
+    let n = out.len().min(s.len() / 2);
+    for i in 0..n {
+        let Some(a) = hex_value(s[2 * i]) else {
             return i;
-        }
-        let a = hex_value(s[2 * i]);
-        if 15 < a {
+        };
+        let Some(b) = hex_value(s[2 * i + 1]) else {
             return i;
-        }
-        let b = hex_value(s[2 * i + 1]);
-        if 15 < b {
-            return i;
-        }
+        };
         out[i] = a * 16 + b;
-        i += 1;
     }
-    i
+    n
 }

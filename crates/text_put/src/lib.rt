@@ -1,4 +1,5 @@
-// Bytes and numbers put into a text. Each function writes from `at` on, and answers the place after it. Definitions: specs/Datum.antt.
+// Bytes and numbers put into a text. Definitions: specs/Datum.antt. With no heap, each function writes into the caller's buffer from `at`
+// on, and answers the place after it.
 #![tactic(auto)]
 
 ghost use Rattle.std.specs.Prelude.{◌≡◌, ◌+◌, ◌≤◌, length};
@@ -27,10 +28,11 @@ pub fn put_signed(out: &mut [u8], at: usize, z: i16) -> usize
     requires { at + 11 ≤ length out.old }
     ensures { (result ≡ at + length (signed_datum z)) × (out.new ≡ put out.old at (signed_datum z)) × (result ≤ at + 11) }
 {
+    let n = z.unsigned_abs();
     if z < 0 {
         let i = put_bytes(out, at, b" -");
-        text::decimal(out, i, text::magnitude(z) as u64)
+        text::decimal(out, i, n as u64)
     } else {
-        put_datum(out, at, text::magnitude(z))
+        put_datum(out, at, n as u32)
     }
 }

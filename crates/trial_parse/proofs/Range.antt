@@ -11,13 +11,24 @@ use Rattle.text.specs.Text.{cut}
 use Rattle.text.proofs.Laws.{either}
 use Rattle.trial_words.specs.Words.{Asked, invoke, deliver, other, word_number, from_words}
 use Rattle.trial_parse.specs.Parse.{parse}
-use Rattle.trial_words.proofs.Laws.{words_fit, invoke-most}
 
 -- "a van not 1 to 8 or a number above 255" is in no command
 pub data InRange : Asked → Type 0 where
   invoke_in_lem : {v k c a : ℕ} → 1 ≤ v → v ≤ 8 → k ≤ 255 → c ≤ 255 → a ≤ 255 → InRange (invoke v k c a)
   deliver_in_lem : {v : ℕ} → 1 ≤ v → v ≤ 8 → InRange (deliver v)
   other_in : InRange other
+
+-- the tests of a line of five words
+abbrev words_fit : Bool → ℕ → ℕ → ℕ → ℕ → Bool
+words_fit b v k c a = b && leb 1 v && leb v 8 && leb k 255 && leb c 255 && leb a 255
+
+invoke-most : (b : Bool) (v k c a : ℕ) → words_fit b v k c a ≡ true → (v ≤ 8) × (k ≤ 255) × (c ≤ 255) × (a ≤ 255)
+invoke-most b v k c a e =
+    let h₁ = and_yes (b && leb 1 v && leb v 8 && leb k 255 && leb c 255) (leb a 255) e in
+    let h₂ = and_yes (b && leb 1 v && leb v 8 && leb k 255) (leb c 255) h₁.0 in
+    let h₃ = and_yes (b && leb 1 v && leb v 8) (leb k 255) h₂.0 in
+    let h₄ = and_yes (b && leb 1 v) (leb v 8) h₃.0 in
+    (leb-true _ _ h₄.1, leb-true _ _ h₃.1, leb-true _ _ h₂.1, leb-true _ _ h₁.1)
 
 van_in : (b : Bool) (v : ℕ) → (b && leb 1 v && leb v 8) ≡ true → (1 ≤ v) × (v ≤ 8)
 van_in b v e =

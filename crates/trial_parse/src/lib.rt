@@ -12,23 +12,23 @@ pub fn parse(line: &[u8]) -> Command
     ensures { asked result ≡ parse line.now }
 {
     let n = line.len();
-    let a = text::find(line, 0, 32);
+    let a = text::find(line, 0, b' ');
     if a == n {
         return Command::Other;
     }
-    let b = text::find(line, a + 1, 32);
+    let b = text::find(line, a + 1, b' ');
     if b == n {
         return trial_words::deliver_of(&line[0..a], &line[a + 1..b]);
     }
-    let c = text::find(line, b + 1, 32);
+    let c = text::find(line, b + 1, b' ');
     if c == n {
         return Command::Other;
     }
-    let d = text::find(line, c + 1, 32);
+    let d = text::find(line, c + 1, b' ');
     if d == n {
         return Command::Other;
     }
-    let e = text::find(line, d + 1, 32);
+    let e = text::find(line, d + 1, b' ');
     if e != n {
         return Command::Other;
     }

@@ -2,12 +2,13 @@
 #![tactic(auto)]
 
 ghost use Rattle.std.specs.Prelude.{◌≡◌, [], ◌∷◌};
-ghost use Rattle.trial_words.specs.Words.{asked, from_words};
+ghost use Rattle.text.specs.Text.{within};
+ghost use Rattle.trial_words.specs.Words.{asked, word_number, from_words};
 
 // The highest number of a client.
-const CLIENTS: u32 = message::CLIENTS as u32;
+const CLIENTS: u8 = message::CLIENTS as u8;
 
-// What a line of input asks.
+// What a line of input asks. A line of another form is a case like the others, with an answer of its own (`bad`): no `Option`.
 #[derive(Clone, Copy)]
 pub enum Command {
     Invoke {
@@ -20,40 +21,42 @@ pub enum Command {
     Other,
 }
 
+// The number at most 255 that a word spells.
+#[tactic(auto, using(crate::proofs::Laws::word_steps))]
+fn byte(w: &[u8]) -> Option<u8>
+    ensures { result ≡ within 255 (word_number w.now) }
+{
+    u8::try_from(text::number(w, 255)?).ok()
+}
+
 // What two words ask.
+#[tactic(auto, using(crate::proofs::Laws::word_steps))]
 pub fn deliver_of(w: &[u8], v: &[u8]) -> Command
     ensures { asked result ≡ from_words (w.now ∷ v.now ∷ []) }
 {
-    let van = text::number(v, 256);
-    if slices::equal(w, b"D") & (1 <= van) & (van <= CLIENTS) {
-        Command::Deliver(van as u8)
-    } else {
-        Command::Other
+    match byte(v) {
+        Some(van) if slices::equal(w, b"D") & (1 <= van) & (van <= CLIENTS) => Command::Deliver(
+            van,
+        ),
+        _ => Command::Other,
     }
 }
 
 // What five words ask.
+#[tactic(auto, using(crate::proofs::Laws::word_steps))]
 pub fn invoke_of(w: &[u8], v: &[u8], k: &[u8], c: &[u8], a: &[u8]) -> Command
     ensures { asked result ≡ from_words (w.now ∷ v.now ∷ k.now ∷ c.now ∷ a.now ∷ []) }
 {
-    let van = text::number(v, 256);
-    let kind = text::number(k, 256);
-    let cell = text::number(c, 256);
-    let amount = text::number(a, 256);
-    if slices::equal(w, b"I")
-        & (1 <= van)
-        & (van <= CLIENTS)
-        & (kind <= 255)
-        & (cell <= 255)
-        & (amount <= 255)
-    {
-        Command::Invoke {
-            van: van as u8,
-            kind: kind as u8,
-            cell: cell as u8,
-            amount: amount as u8,
+    match (byte(v), byte(k), byte(c), byte(a)) {
+        (Some(van), Some(kind), Some(cell), Some(amount))
+            if slices::equal(w, b"I") & (1 <= van) & (van <= CLIENTS) => {
+            Command::Invoke {
+                van,
+                kind,
+                cell,
+                amount,
+            }
         }
-    } else {
-        Command::Other
+        _ => Command::Other,
     }
 }

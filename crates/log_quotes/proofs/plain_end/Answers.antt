@@ -1,6 +1,8 @@
 use mathlib.Core.Bool.{true}
-use mathlib.Core.Path.{refl}
-use Rattle.log_quotes.specs.Quotes.{plain, may_end}
+use mathlib.Core.Path.{◌≡◌, refl, subst}
+use native.Mathlib.Omega.{arith}
+use lib.ListN.{length}
+use Rattle.log_quotes.specs.Quotes.{plain, may_end, EndsAt}
 use Rattle.log_quotes.proofs.Laws.{way_start, way_end, plain_stop, plain-broken, plain_more}
 use Rattle.log_quotes.proofs.plain_end.Goals as goal
 
@@ -18,4 +20,8 @@ loop-i-preserved c = plain_more c.loop-i.invariant c.loop-i-test.true c.if-s-i-e
 
 pub returns : goal.returns
 unfolding may_end
-returns c = way_end c.loop-i.invariant true c.loop-i-test.false refl
+returns c =
+    let a = c.args in
+    let w = c.loop-i.invariant in
+    let e : c.loop-i.i ≡ length a.s.now = omega (arith, w.high, c.loop-i-test.false) in
+    subst (λ i. EndsAt plain a.s.now a.a (record { end = i; sound = true })) e (way_end w true c.loop-i-test.false refl)

@@ -9,5 +9,5 @@ columns_in-requires c = head_sound _ (sym c.header_ok.ensures ∙ c.if-header_ok
 pub returns-then-header_ok : goal.returns-then-header_ok
 returns-then-header_ok c = head_yes _ _ (sym c.header_ok.ensures ∙ c.if-header_ok.true) c.columns_in.ensures
 
-pub returns : goal.returns
-returns c = head_no _ (sym c.header_ok.ensures ∙ c.if-header_ok.false)
+pub returns-else-header_ok : goal.returns-else-header_ok
+returns-else-header_ok c = head_no _ (sym c.header_ok.ensures ∙ c.if-header_ok.false)

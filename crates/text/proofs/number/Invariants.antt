@@ -1,12 +1,8 @@
-use Prim.Native.Nat.{◌-◌, ◌≤◌}
 use mathlib.Core.Path.{◌≡◌}
-use lib.ListN.{length, drop}
-use Rattle.text.specs.Text.{number_of}
+use lib.ListN.{drop}
+use Rattle.text.specs.Text.{number_within}
 use Rattle.text.proofs.Laws.{rest_of}
 use Rattle.text.proofs.number.Given as goal
 
-abbrev pub invariant-loop-i : goal.invariant-loop-i
-invariant-loop-i l = (number_of l.cap l.s ≡ rest_of l.cap l.v (drop l.i l.s)) × (l.v ≤ l.cap)
-
-abbrev pub decreases-loop-i : goal.decreases-loop-i
-decreases-loop-i l = length l.s - l.i
+abbrev pub invariant-loop-d : goal.invariant-loop-d
+invariant-loop-d l = number_within l.max l.s ≡ rest_of l.max l.v (drop l.d-index l.s)

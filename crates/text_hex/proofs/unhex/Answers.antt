@@ -1,28 +1,32 @@
 use borrow.Author.Rules.{rules}
-use Prim.Native.Nat.{◌-◌}
 use native.Mathlib.Omega.{arith}
-use Rattle.text_hex.proofs.Pairs.{took_none, took_end, took-high, took-low, took-full, took_more}
+use Rattle.text_hex.proofs.Pairs.{value_none, value_is, value_digit, took-high, took-low, took_through, took_more}
 use Rattle.text_hex.proofs.unhex.Goals as goal
 
-pub loop-i-init : goal.loop-i-init
-loop-i-init c = (search rules, took_none _ _)
+pub returns-in_default : goal.returns-in_default
+returns-in_default c = took-high c.loop-i.invariant.1 (omega (arith, c.loop-i-test.true, c.min-n.ensures)) (value_none _ c.in_default.ensures)
 
-pub returns-then-s-i : goal.returns-then-s-i
-returns-then-s-i c = took_end c.loop-i.invariant.1 c.if-s-i.true
+pub returns-in_default-hex_value : goal.returns-in_default-hex_value
+returns-in_default-hex_value c =
+    took-low c.loop-i.invariant.1 (omega (arith, c.loop-i-test.true, c.min-n.ensures)) (value_none _ c.in_default-hex_value.ensures)
 
-pub returns-then-a-gt15 : goal.returns-then-a-gt15
-returns-then-a-gt15 c = took-high c.loop-i.invariant.1 c.if-s-i.false (omega (arith, c.if-a-gt15.true, c.hex_value-a.ensures))
+pub overflow_mul-out : goal.overflow_mul-out
+overflow_mul-out c = omega (arith, value_is _ c.in-Some.ensures, value_digit _ c.in-Some.ensures)
 
-pub returns-then-b-gt15 : goal.returns-then-b-gt15
-returns-then-b-gt15 c = took-low c.loop-i.invariant.1 c.if-s-i.false (omega (arith, c.if-b-gt15.true, c.hex_value-b.ensures))
+pub overflow_add-out : goal.overflow_add-out
+overflow_add-out c =
+    let a = c.in-Some.ensures in
+    let b = c.in-Some-hex_value.ensures in
+    omega (arith, value_is _ a, value_digit _ a, value_is _ b, value_digit _ b)
 
 pub loop-i-preserved : goal.loop-i-preserved
 loop-i-preserved c =
     let k = c.loop-i in
-    let a = c.hex_value-a.ensures in
-    let b = c.hex_value-b.ensures in
-    let m = took_more k.invariant.1 (omega (arith, c.loop-i-test.true, k.invariant.0)) c.if-s-i.false (omega (arith, c.if-a-gt15.false, a)) (omega (arith, c.if-b-gt15.false, b)) in
-    (search rules, rw (a, b) m)
+    let a = c.in-Some.ensures in
+    let b = c.in-Some-hex_value.ensures in
+    let m =
+    took_more k.invariant.1 (omega (arith, c.loop-i-test.true, c.min-n.ensures)) (omega (arith, c.loop-i-test.true, c.min-n.ensures)) (value_digit _ a) (value_digit _ b) in
+    (search rules, rw (value_is _ a, value_is _ b) m)
 
 pub returns : goal.returns
-returns c = took-full c.loop-i.invariant.1 (omega (arith, c.loop-i-test.false, c.loop-i.invariant.0))
+returns c = took_through c.loop-i.invariant.1 _ c.min-n.ensures c.loop-i.auto.i-end c.loop-i-test.false

@@ -13,7 +13,7 @@ decimal-requires c =
     let b = c in
     let e = c.put_bytes-i in
     let l : length e.new.out ≡ length b.args.out.now = search rules in
-    omega (arith, sized b.args.z b.ranges.z c.magnitude.result c.magnitude.ensures, e.ensures.0, b.requires)
+    omega (arith, sized b.args.z b.ranges.z c.unsigned_abs-n.result c.unsigned_abs-n.ensures.value, e.ensures.0, b.requires)
 
 pub returns-then-z-lt0 : goal.returns-then-z-lt0
 returns-then-z-lt0 c =
@@ -23,12 +23,12 @@ returns-then-z-lt0 c =
     let e = x.put_bytes-i in
     let f = c.decimal in
     let v : Wrote a.out.now a.at (32 ∷ 45 ∷ []) e.new.out e.result = record { place = e.ensures.0; bytes = e.ensures.1 } in
-    let w : Wrote e.new.out e.result (decimal_of x.magnitude.result) f.new.out f.result = record { place = f.ensures.0; bytes = f.ensures.1 } in
-    put-below a.z b.ranges.z x.if-z-lt0.true x.magnitude.ensures (then (omega (arith, b.requires)) v w)
+    let w : Wrote e.new.out e.result (decimal_of x.unsigned_abs-n.result) f.new.out f.result = record { place = f.ensures.0; bytes = f.ensures.1 } in
+    put-below a.z b.ranges.z x.if-z-lt0.true x.unsigned_abs-n.ensures.value (then (omega (arith, b.requires)) v w)
 
 pub returns-else-z-lt0 : goal.returns-else-z-lt0
 returns-else-z-lt0 c =
     let x = c in
     let b = x in
     let f = c.put_datum in
-    put_above b.args.z b.ranges.z x.if-z-lt0.false x.magnitude-else-z-lt0.ensures (record { place = f.ensures.0; bytes = f.ensures.1 })
+    put_above b.args.z b.ranges.z x.if-z-lt0.false x.unsigned_abs-n.ensures.value (record { place = f.ensures.0; bytes = f.ensures.1 })
