@@ -1,6 +1,5 @@
 -- The numbers that a call says fix its outcome: two outcomes that are said alike are one.
 -- Assumes nothing.
-use Prim.Native.Nat.{ℕ, zero, suc}
 use mathlib.Core.Path.{◌≡◌, refl, sym, ap, ◌∙◌}
 use mathlib.Core.Bool.{cond}
 use lib.Dec.{eqb}
@@ -8,8 +7,7 @@ use lib.IntN.{nat_abs}
 use Rattle.replica.specs.Outcome.{Told, opened, invoked, responded, aborted, confirmed, refused, halted, told}
 use Rattle.replica.specs.declared.Outcome.{Outcome}
 use Rattle.replica.proofs.Once.{told_once}
-use Rattle.server.specs.Server.{ServerTold, placed, broadcast, refused as serverRefused, told as serverTold}
-use Rattle.server.specs.declared.ServerOutcome.{ServerOutcome}
+use Rattle.server.specs.Server.{ServerTold, placed, broadcast, refused as serverRefused, ServerOutcome, told as serverTold}
 use Rattle.server.proofs.Once.{told_once as server-told-once}
 use Rattle.cop_said.specs.declared.Said.{Said}
 use Rattle.cop_said.specs.Said.{said, server_said}

@@ -90,7 +90,7 @@ pub fn server_said(o: ServerOutcome) -> Said
     ensures { result ≡ server_said (serverTold o) }
 {
     match o {
-        ServerOutcome::Success(d) => server_event_said(d),
-        ServerOutcome::Refused(why) => refusal_said(server::refusal_number(why)),
+        Ok(d) => server_event_said(d),
+        Err(why) => refusal_said(why.number()),
     }
 }

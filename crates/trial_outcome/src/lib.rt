@@ -41,20 +41,7 @@ pub fn told_said(outcome: Outcome) -> LineWord
 pub fn is_success(outcome: Outcome) -> bool
     ensures { result ≡ is_success (O.told outcome) }
 {
-    match outcome {
-        Outcome::Success(_) => true,
-        Outcome::Refused(_) => false,
-        Outcome::Halted(_) => false,
-    }
-}
-
-fn served_event_said(event: ServerEvent) -> LineWord
-    ensures { word_of result ≡ served_word (S.event_told event) }
-{
-    match event {
-        ServerEvent::Placed(p) => LineWord::Placed(p),
-        ServerEvent::Broadcast(_) => LineWord::Empty,
-    }
+    matches!(outcome, Outcome::Success(_))
 }
 
 // What the server's outcome prints.
@@ -62,17 +49,9 @@ pub fn served_said(outcome: ServerOutcome) -> LineWord
     ensures { word_of result ≡ served_word (S.told outcome) }
 {
     match outcome {
-        ServerOutcome::Success(event) => served_event_said(event),
-        ServerOutcome::Refused(why) => LineWord::No(server::refusal_number(why)),
-    }
-}
-
-fn event_placed(event: ServerEvent) -> bool
-    ensures { result ≡ is_placed (S.event_told event) }
-{
-    match event {
-        ServerEvent::Placed(_) => true,
-        ServerEvent::Broadcast(_) => false,
+        Ok(ServerEvent::Placed(p)) => LineWord::Placed(p),
+        Ok(ServerEvent::Broadcast(_)) => LineWord::Empty,
+        Err(why) => LineWord::No(why.number()),
     }
 }
 
@@ -80,19 +59,7 @@ fn event_placed(event: ServerEvent) -> bool
 pub fn is_placed(outcome: ServerOutcome) -> bool
     ensures { result ≡ is_placed (S.told outcome) }
 {
-    match outcome {
-        ServerOutcome::Success(event) => event_placed(event),
-        ServerOutcome::Refused(_) => false,
-    }
-}
-
-fn event_count(event: ServerEvent) -> u32
-    ensures { result ≡ broadcast_count (S.event_told event) }
-{
-    match event {
-        ServerEvent::Placed(_) => 0,
-        ServerEvent::Broadcast(n) => n,
-    }
+    matches!(outcome, Ok(ServerEvent::Placed(_)))
 }
 
 // How many broadcasts the server wrote.
@@ -100,7 +67,7 @@ pub fn broadcast_count(outcome: ServerOutcome) -> u32
     ensures { result ≡ broadcast_count (S.told outcome) }
 {
     match outcome {
-        ServerOutcome::Success(event) => event_count(event),
-        ServerOutcome::Refused(_) => 0,
+        Ok(ServerEvent::Broadcast(n)) => n,
+        Ok(ServerEvent::Placed(_)) | Err(_) => 0,
     }
 }
