@@ -29,13 +29,21 @@ pub const FULL_AT: u64 = 256;
 // The lines to the clients, client i + 1 at i. The broadcasts of all are one log: `next` has how many of them each client has taken. A
 // client has at most one reply on its line: `lengths` has how many bytes it has (0: there is none), `before` how many broadcasts were put
 // on the line before it. `refused` says whose invoke waits to be offered again.
-// The bytes are lent: a log has the broadcast that p others precede at p modulo LOG_SIZE; replies and invokes have those of each client.
+// The bytes are lent (`Lent`): a log has the broadcast that p others precede at p modulo LOG_SIZE; replies and invokes have those of each client.
 #[derive(Clone, Copy)]
 pub struct Lines {
     pub next: [u32; CLIENTS],
     pub before: [u32; CLIENTS],
     pub lengths: [u32; CLIENTS],
     pub refused: [bool; CLIENTS],
+}
+
+// What is lent from line to line: the log, and the replies and the invokes of all clients.
+#[derive(Drop)]
+pub struct Lent {
+    pub log: [u8; LOG_LENGTH],
+    pub replies: [u8; REPLIES_LENGTH],
+    pub invokes: [u8; INVOKES_LENGTH],
 }
 
 #[derive(Clone, Copy)]
