@@ -1,8 +1,7 @@
 -- The keys, one after the other, and the start. Assumes nothing.
 use Prim.Native.Nat.{ℕ, zero, suc, ◌+◌, ◌*◌, ◌≤◌}
 use mathlib.Core.Path.{◌≡◌, refl, sym, ap, ◌∙◌}
-use mathlib.Core.List.{List, [], ◌∷◌, ◌++◌, append-nil, append_assoc}
-use lib.Seq.{drop-drop}
+use mathlib.Core.List.{List, [], ◌∷◌, ◌++◌, append-nil}
 use lib.ListN.{length, take, drop, replicate, length-append, length-replicate, drop_of_length-le}
 use native.Mathlib.Omega.{arith}
 use native.Mathlib.Numerals.{add-one}
@@ -14,6 +13,7 @@ use Rattle.server.specs.declared.Server.{Server}
 use Rattle.server.specs.Server.{fresh_server}
 use Rattle.trial_core.specs.declared.Lines.{Lines}
 use Rattle.trial_core.specs.declared.Trial.{Trial}
+use Rattle.trial_core.proofs.Parts.{part_put}
 use Rattle.trial_core.specs.Trial.{keys_to, trial_keys, replicas_to, start_trial}
 
 keys_length_lem : (n : ℕ) → length (keys_to n) ≡ n * 32
@@ -24,12 +24,6 @@ keys_length_lem (suc n) = length-append (keys_to n) (replicate 32 (suc n)) ∙ o
 pub keys_none : (z : List ℕ) → z ≡ keys_to 0 ++ drop (0 * 32) z
 unfolding keys_to
 keys_none z = refl
-
--- a part of k bytes, written
-part_put : (s y : List ℕ) (at k : ℕ) → length y ≡ k → take at s ++ (y ++ drop k (drop at s)) ≡ put s at y
-part_put s y at k l =
-    let d : drop k (drop at s) ≡ drop (at + length y) s = rw (← l) (drop-drop (length y) at s) in
-    rw (d, append_assoc (take at s) y (drop (at + length y) s))
 
 -- one more key
 keys_put : (z keys k : List ℕ) (i : ℕ) → keys ≡ keys_to i ++ drop (i * 32) z → k ≡ replicate 32 (i + 1)
