@@ -17,7 +17,7 @@ pub fn deliver_broadcast(t: &Trial, i: usize, log: &[u8; trial_core::LOG_LENGTH]
     let at = t.lines.next[i] as usize % trial_core::LOG_SIZE * message::COMMIT_LENGTH;
     let mut out = [0u8; message::COMMIT_LENGTH];
     let q = client::receive(
-        t.replicas[i],
+        t.replica(i),
         &log[at..at + message::COMMIT_LENGTH],
         &mut out,
     );

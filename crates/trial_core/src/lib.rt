@@ -1,6 +1,10 @@
 // The trial of document 01: eight clients, the server and the lines between them. Its state; definitions: specs/Trial.antt.
 #![tactic(auto)]
 
+ghost use Rattle.std.specs.Prelude.{◌≡◌, ◌<◌};
+ghost use Rattle.message.specs.Layout.{client_count};
+ghost use Rattle.trial_core.specs.Trial.{kept_invoke, replica_of};
+
 use replica::Replica;
 use server::Server;
 use trial_said::LineWord;
@@ -46,11 +50,34 @@ pub struct Lent {
     pub invokes: [u8; INVOKES_LENGTH],
 }
 
+impl Lent {
+    // The invoke of client `i` + 1, as a value of its own: the replies can then be lent beside it.
+    pub fn invoke_of(&self, i: usize) -> [u8; message::INVOKE_LENGTH]
+        requires { i < client_count }
+        ensures { result ≡ kept_invoke self.now.invokes i }
+    {
+        let at = i * message::INVOKE_LENGTH;
+        let mut m = [0; message::INVOKE_LENGTH];
+        m.copy_from_slice(&self.invokes[at..at + message::INVOKE_LENGTH]);
+        m
+    }
+}
+
 #[derive(Clone, Copy)]
 pub struct Trial {
     pub replicas: [Replica; CLIENTS],
     pub server: Server,
     pub lines: Lines,
+}
+
+impl Trial {
+    // The replica of client `i` + 1.
+    pub fn replica(&self, i: usize) -> Replica
+        requires { i < client_count }
+        ensures { result ≡ replica_of self.now i }
+    {
+        self.replicas[i]
+    }
 }
 
 // A client, the server and the lines after a line of input, and what it prints.

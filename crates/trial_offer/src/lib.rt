@@ -8,7 +8,7 @@ ghost use Rattle.trial_core.specs.Trial.{with_reply, with_refused, offer};
 ghost use Rattle.trial_offer.specs.Offers.{offering_of, again_offering, offered_one, offered_to};
 
 use server::Server;
-use trial_core::Lines;
+use trial_core::{Lent, Lines};
 use trial_said::LineWord;
 
 // The server and the lines after an invoke is offered, and what that prints.
@@ -70,19 +70,14 @@ pub fn offer(
 }
 
 // Offers the refused invoke of client `i` + 1, if there is one and the server has a place.
-fn offer_one(
-    s: Server,
-    l: Lines,
-    i: usize,
-    replies: &mut [u8; trial_core::REPLIES_LENGTH],
-    invokes: &[u8; trial_core::INVOKES_LENGTH],
-) -> Again
+fn offer_one(s: Server, l: Lines, i: usize, lent: &mut Lent) -> Again
     requires { i < client_count }
-    ensures { again_offering result replies.new ≡ offered_one s l i replies.old invokes.now }
+    ensures { (again_offering result lent.new.replies ≡ offered_one s l i lent.old.replies lent.old.invokes)
+        × (lent.new.log ≡ lent.old.log) × (lent.new.invokes ≡ lent.old.invokes) }
 {
     if l.refused[i] && trial_room::has_place(&s) {
-        let at = i * message::INVOKE_LENGTH;
-        let o = offer(s, l, i, &invokes[at..at + message::INVOKE_LENGTH], replies);
+        let m = lent.invoke_of(i);
+        let o = offer(s, l, i, &m, &mut lent.replies);
         Again {
             server: o.server,
             lines: o.lines,
@@ -96,20 +91,16 @@ fn offer_one(
 }
 
 // Offers the refused invokes again, lowest client first.
-pub fn offer_again(
-    s: Server,
-    l: Lines,
-    replies: &mut [u8; trial_core::REPLIES_LENGTH],
-    invokes: &[u8; trial_core::INVOKES_LENGTH],
-) -> Again
-    ensures { again_offering result replies.new ≡ offered_to client_count s l replies.old invokes.now }
+pub fn offer_again(s: Server, l: Lines, lent: &mut Lent) -> Again
+    ensures { (again_offering result lent.new.replies ≡ offered_to client_count s l lent.old.replies lent.old.invokes)
+        × (lent.new.log ≡ lent.old.log) × (lent.new.invokes ≡ lent.old.invokes) }
 {
     let mut after = Again {
         server: s,
         lines: l,
     };
     for i in 0..trial_core::CLIENTS {
-        after = offer_one(after.server, after.lines, i, replies, invokes);
+        after = offer_one(after.server, after.lines, i, lent);
     }
     after
 }
