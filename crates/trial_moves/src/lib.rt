@@ -18,16 +18,12 @@ pub fn invoke(t: &Trial, i: usize, kind: u8, cell: u8, amount: u8, lent: &mut Le
     ensures { move_of result lent.new
         ≡ invoke_move (replica_of t.now i) t.now.server t.now.lines i kind cell amount lent.old }
 {
-    let Lent {
-        replies,
-        invokes,
-        ..
-    } = lent;
     let at = i * message::INVOKE_LENGTH;
-    let end = at + message::INVOKE_LENGTH;
-    let q = client::invoke(t.replica(i), kind, cell, amount, 0, &mut invokes[at..end]);
+    let room = &mut lent.invokes[at..at + message::INVOKE_LENGTH];
+    let q = client::invoke(t.replica(i), kind, cell, amount, 0, room);
     if trial_outcome::is_success(q.outcome) {
-        let o = trial_offer::offer(t.server, t.lines, i, &invokes[at..end], replies);
+        let m = lent.invoke_of(i);
+        let o = trial_offer::offer(t.server, t.lines, i, &m, &mut lent.replies);
         Moved {
             replica: q.replica,
             server: o.server,

@@ -4,7 +4,7 @@ use Prim.Native.Nat.{ℕ, ◌+◌, ◌-◌, ◌*◌}
 use mathlib.Core.List.{List}
 use mathlib.Core.Path.{◌≡◌, sym, ap, ◌∙◌}
 use Rattle.trial_moves.proofs.Invoking.{invoke_goes, invoke-stops}
-use Rattle.trial_core.specs.Trial.{invoke_move}
+use Rattle.trial_core.specs.Trial.{offer, invoke_move}
 use borrow.Author.Rules.{rules}
 use Rattle.trial_moves.proofs.invoke.Goals as goal
 
@@ -19,7 +19,7 @@ returns-then-is_success c =
     let z : length a.lent.now.invokes ≡ 344 = search rules in
     invoke_goes c.replica.result a.t.now.server a.t.now.lines a.i a.kind a.cell a.amount a.lent.now.log a.lent.now.replies a.lent.now.invokes c.requires z y k hk q.ensures.1 ly q.ensures.0
     (sym c.is_success.ensures ∙ c.if-is_success.true)
-    c.offer-o.ensures
+    (c.offer-o.ensures ∙ ap (λ x. offer a.t.now.server a.t.now.lines a.i x a.lent.now.replies) c.invoke_of-m.ensures)
     ∙ ap (λ x. invoke_move x a.t.now.server a.t.now.lines a.i a.kind a.cell a.amount a.lent.now) c.replica.ensures
 
 pub returns-else-is_success : goal.returns-else-is_success
