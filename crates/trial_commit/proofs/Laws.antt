@@ -1,7 +1,7 @@
 -- Laws of the log, and of a commit whose broadcasts go there. Assumes nothing.
 use Prim.Native.Nat.{ℕ, zero, suc, ◌+◌, ◌*◌, ◌%◌, ◌≤◌}
-use mathlib.Core.Path.{◌≡◌, refl, ap, ◌∙◌}
-use mathlib.Core.List.{List}
+use mathlib.Core.Path.{◌≡◌, refl, sym, ap, ◌∙◌}
+use mathlib.Core.List.{List, ◌++◌}
 use lib.ListN.{length, take, drop, length-append, length-drop}
 use lib.Seq.{drop-append-le, take-append-le}
 use native.Mathlib.Omega.{arith}
@@ -13,13 +13,27 @@ use Rattle.server.specs.Server.{ServerTold, server_step}
 use Rattle.server.specs.Server as S
 use Rattle.server_laws.proofs.State.{Sizes}
 use Rattle.trial_core.specs.Trial.{broadcast_count, logged}
+use Rattle.trial_core.proofs.Parts.{part_put}
+use Rattle.trial_offer.proofs.Parts.{part_length}
 use Rattle.trial_offer.proofs.ServerWrote.{server-wrote}
 
--- one more broadcast
-pub logged_more : (log now bytes : List ℕ) (passed k e : ℕ) → e ≡ 80 → now ≡ logged log passed k bytes
-    → put now ((passed + k) % 512 * 80) (take e (drop (k * 80) bytes)) ≡ logged log passed (k + 1) bytes
+pub logged_none : (log bytes : List ℕ) (passed : ℕ) → log ≡ logged log passed 0 bytes
 unfolding logged
-logged_more log now bytes passed k e h q = rw (add-one k, q, h)
+logged_none log bytes passed = refl
+
+-- one more broadcast
+logged_put : (log now bytes : List ℕ) (passed k : ℕ) → now ≡ logged log passed k bytes
+    → put now ((passed + k) % 512 * 80) (take 80 (drop (k * 80) bytes)) ≡ logged log passed (k + 1) bytes
+unfolding logged
+logged_put log now bytes passed k q = rw (add-one k, q)
+
+pub logged_more : (log now bytes y : List ℕ) (passed k n m : ℕ) → n ≡ 80 → m ≡ 80 → k * 80 + 80 ≤ length bytes → y ≡ take m (drop (k * 80) bytes)
+    → now ≡ logged log passed k bytes
+    → take ((passed + k) % 512 * 80) now ++ (y ++ drop n (drop ((passed + k) % 512 * 80) now)) ≡ logged log passed (k + 1) bytes
+logged_more log now bytes y passed k n m hn hm h e q =
+    let b : y ≡ take 80 (drop (k * 80) bytes) = e ∙ ap (λ (x : ℕ). take x (drop (k * 80) bytes)) hm in
+    let l : length y ≡ n = ap length b ∙ part_length bytes (k * 80) 80 h ∙ sym hn in
+    part_put now y ((passed + k) % 512 * 80) n l ∙ ap (λ (x : List ℕ). put now ((passed + k) % 512 * 80) x) b ∙ logged_put log now bytes passed k q
 
 part_front : (w out : List ℕ) (k : ℕ) → k + 80 ≤ length w → take 80 (drop k (over w out)) ≡ take 80 (drop k w)
 part_front w out k h =

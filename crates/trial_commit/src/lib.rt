@@ -3,24 +3,23 @@
 
 ghost use Rattle.std.specs.Prelude.{◌≡◌, ◌+◌, ◌*◌, ◌<◌, ◌≤◌, length};
 ghost use Rattle.message.specs.Layout.{client_count, commit_length};
-ghost use Rattle.trial_core.specs.Sizes.{commit_room, log_length};
+ghost use Rattle.trial_core.specs.Sizes.{commit_room};
 ghost use Rattle.server.specs.Server.{server_step};
 ghost use Rattle.trial_core.specs.Trial.{logged, broadcast_count};
 
 use server::Server;
 
 // Puts the first `n` of these broadcasts at the end of the log.
-fn append(log: &mut [u8], passed: u32, n: usize, out: &[u8])
-    requires { (n * commit_length ≤ length out.now) × (length log.old ≡ log_length) }
+fn append(log: &mut [u8; trial_core::LOG_LENGTH], passed: u32, n: usize, out: &[u8])
+    requires { n * commit_length ≤ length out.now }
     ensures { log.new ≡ logged log.old passed n out.now }
 {
-    let mut k = 0usize;
-    while k < n {
+    for k in 0..n {
         let at = k * message::COMMIT_LENGTH;
-        let end = at + message::COMMIT_LENGTH;
         let place = (passed as usize + k) % trial_core::LOG_SIZE * message::COMMIT_LENGTH;
-        slices::copy_to(log, place, &out[at..end]);
-        k += 1;
+        log[place..place + message::COMMIT_LENGTH].copy_from_slice(
+            &out[at..at + message::COMMIT_LENGTH],
+        );
     }
 }
 
@@ -31,17 +30,14 @@ fn broadcast_buffer() -> [u8; trial_core::COMMIT_ROOM]
 }
 
 // The server takes a commit; the broadcasts go to the lines of all.
-pub fn commit(s: Server, i: usize, m: &[u8], log: &mut [u8]) -> Server
-    requires { (i < client_count) × (length log.old ≡ log_length) }
+pub fn commit(s: Server, i: usize, m: &[u8], log: &mut [u8; trial_core::LOG_LENGTH]) -> Server
+    requires { i < client_count }
     ensures { (result ≡ (server_step s (i + 1) m.now commit_room).server)
         × (log.new ≡ logged log.old s.passed (broadcast_count (server_step s (i + 1) m.now commit_room).says) (server_step s (i + 1) m.now commit_room).wrote) }
 {
-    let passed = s.passed;
     let mut out = broadcast_buffer();
     let q = server_receive::receive(s, (i + 1) as u8, m, &mut out);
-    let outcome = q.outcome;
-    let server = q.server;
-    let n = trial_outcome::broadcast_count(outcome) as usize;
-    append(log, passed, n, &out);
-    server
+    let n = trial_outcome::broadcast_count(q.outcome) as usize;
+    append(log, s.passed, n, &out);
+    q.server
 }

@@ -16,6 +16,7 @@ use Rattle.client.specs.Receive.{receive_step}
 use Rattle.server.specs.declared.Server.{Server}
 use Rattle.server.specs.Server as S
 use Rattle.server.specs.Server.{ServerTold, fresh_server, server_step}
+use Rattle.trial_core.specs.declared.Lent as D
 use Rattle.trial_core.specs.declared.Lines.{Lines}
 use Rattle.trial_core.specs.declared.Trial.{Trial}
 use Rattle.trial_core.specs.Sizes.{invoke_room, commit_room, log_size, log_length, replies_length, invokes_length, full_at}
@@ -147,11 +148,9 @@ pub record Move : Type 0 where
   pub replies : List ℕ
   pub invokes : List ℕ
 
--- the bytes that are lent from line to line
-pub record Lent : Type 0 where
-  pub log : List ℕ
-  pub replies : List ℕ
-  pub invokes : List ℕ
+-- the bytes that are lent from line to line: log, replies and invokes
+abbrev pub Lent : Type 0
+Lent = D.Lent
 
 -- "`IN` and `CO` reach the relay without delay": an invoke that a client wrote …
 unfoldable pub invoked_move : Step → Server → Lines → ℕ → Lent → Move

@@ -2,10 +2,9 @@
 #![tactic(auto)]
 
 ghost use Rattle.std.specs.Prelude.{◌+◌, ◌≤◌, ◌<◌, ◌^◌, length};
-ghost use Rattle.trial_core.specs.Moves.{lent_of};
 ghost use Rattle.trial_lines.specs.Lines.{Answers};
 
-use trial_core::Trial;
+use trial_core::{Lent, Trial};
 
 // After some lines: the trial, how many lines there were and how many bytes they have, and how many bytes were written.
 #[derive(Clone, Copy)]
@@ -17,18 +16,9 @@ pub struct Answered {
 }
 
 // Answers the lines of `text`, the first as line `number` + 1, until none is left or `out` has less room than a line may need.
-pub fn answers(
-    trial: Trial,
-    number: u64,
-    text: &[u8],
-    out: &mut [u8],
-    log: &mut [u8; trial_core::LOG_LENGTH],
-    replies: &mut [u8; trial_core::REPLIES_LENGTH],
-    invokes: &mut [u8; trial_core::INVOKES_LENGTH],
-) -> Answered
+pub fn answers(trial: Trial, number: u64, text: &[u8], out: &mut [u8], lent: &mut Lent) -> Answered
     requires { number + length text.now < 2 ^ 64 }
-    ensures { Answers trial number (lent_of log.old replies.old invokes.old) text.now out.old
-        result (lent_of log.new replies.new invokes.new) out.new }
+    ensures { Answers trial number lent.old text.now out.old result lent.new out.new }
 {
     let room = out.len();
     let mut t = trial;
@@ -38,26 +28,11 @@ pub fn answers(
     while 64 <= room - filled {
         let end = text::find(text, at, 10);
         if end == text.len() {
-            return Answered {
-                trial: t,
-                count,
-                used: at,
-                filled,
-            };
+            break;
         }
         let command = trial_parse::parse(&text[at..end]);
-        let q = trial_answer::answer(
-            t,
-            number + count + 1,
-            command,
-            out,
-            filled,
-            log,
-            replies,
-            invokes,
-        );
-        let after = q.trial;
-        t = after;
+        let q = trial_answer::answer(t, number + count + 1, command, out, filled, lent);
+        t = q.trial;
         filled = q.filled;
         count += 1;
         at = end + 1;

@@ -58,13 +58,13 @@ module _ (r : Replica) (s : Server) (l : Lines) (i kind cell amount : ℕ) (log 
         part_over invokes call.wrote y (i * 43) k (omega arith) (omega (arith, room)) ey
         ∙ ap (λ (x : Step). put invokes (i * 43) x.wrote) call_is
 
-    pub invoke_goes : is_success a.says ≡ true → {o : Offering} → o ≡ offer s l i (take k (drop (i * 43) back)) replies
+    pub invoke_goes : is_success a.says ≡ true → {o : Offering} → o ≡ offer s l i (kept_invoke back i) replies
         → ◌≡◌ {A = Move} (record { replica = a.replica; server = o.server; lines = o.lines; word = o.word; log = log; replies = o.replies; invokes = back })
         (invoke_move r s l i kind cell amount (lent_of log replies invokes))
     unfolding invoke_move invoked_move
     invoke_goes t {o} eo =
         let u : is_success q.after.says ≡ true = ap (λ (x : After). is_success x.says) (sym after_is) ∙ t in
-        let m : take k (drop (i * 43) back) ≡ kept_invoke (put invokes (i * 43) q.wrote) i = ap (λ (x : ℕ). take x (drop (i * 43) back)) hk ∙ ap (λ (x : List ℕ). take 43 (drop (i * 43) x)) back_is in
+        let m : kept_invoke back i ≡ kept_invoke (put invokes (i * 43) q.wrote) i = ap (λ (x : List ℕ). kept_invoke x i) back_is in
         let g : o ≡ offer s l i (kept_invoke (put invokes (i * 43) q.wrote) i) replies = eo ∙ ap (λ (x : List ℕ). offer s l i x replies) m in
         rw u
         (move_same (ap (λ (x : After). x.replica) after_is) (ap (λ (x : Offering). x.server) g) (ap (λ (x : Offering). x.lines) g) (ap (λ (x : Offering). x.word) g) refl (ap (λ (x : Offering). x.replies) g) back_is)

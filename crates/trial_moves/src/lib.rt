@@ -1,58 +1,41 @@
 // What a line of input does with a client: invoking, and taking the head of a line. Definitions: specs/Trial.antt of trial_core.
 #![tactic(auto)]
 
-ghost use Rattle.std.specs.Prelude.{◌≡◌, List, ℕ, ◌<◌, ◌≤◌, get_or, length};
+ghost use Rattle.std.specs.Prelude.{◌≡◌, ◌<◌, ◌≤◌, get_or};
 ghost use Rattle.message.specs.Layout.{client_count};
-ghost use Rattle.trial_core.specs.Sizes.{invoke_room, invokes_length, log_length, replies_length};
-ghost use Rattle.trial_core.specs.Trial.{invoke_move, reply_move, deliver_move};
-ghost use Rattle.trial_core.specs.Moves.{move_of, lent_of};
+ghost use Rattle.trial_core.specs.Sizes.{invoke_room};
+ghost use Rattle.trial_core.specs.Trial.{invoke_move, reply_move, deliver_move, replica_of};
+ghost use Rattle.trial_core.specs.Moves.{move_of};
 
-use replica::Replica;
-use server::Server;
-use trial_core::{Lines, Moved};
+use trial_core::{Lent, Moved, Trial};
 use trial_said::LineWord;
 
 // ---- invoking
 
 // Invokes an operation at client `i` + 1; the invoke reaches the server without delay.
-pub fn invoke(
-    r: Replica,
-    s: Server,
-    l: Lines,
-    i: usize,
-    kind: u8,
-    cell: u8,
-    amount: u8,
-    replies: &mut [u8],
-    invokes: &mut [u8],
-) -> Moved
-    requires { (i < client_count) × (length replies.old ≡ replies_length) × (length invokes.old ≡ invokes_length) }
-    ensures { (log : List ℕ) → move_of result (lent_of log replies.new invokes.new)
-        ≡ invoke_move r s l i kind cell amount (lent_of log replies.old invokes.old) }
+pub fn invoke(t: &Trial, i: usize, kind: u8, cell: u8, amount: u8, lent: &mut Lent) -> Moved
+    requires { i < client_count }
+    ensures { move_of result lent.new
+        ≡ invoke_move (replica_of t.now i) t.now.server t.now.lines i kind cell amount lent.old }
 {
     let at = i * message::INVOKE_LENGTH;
-    let end = at + message::INVOKE_LENGTH;
-    let q = client::invoke(r, kind, cell, amount, 0, &mut invokes[at..end]);
-    let outcome = q.outcome;
-    let replica = q.replica;
-    if trial_outcome::is_success(outcome) {
-        let o = trial_offer::offer(s, l, i, &invokes[at..end], replies);
-        let server = o.server;
-        let lines = o.lines;
-        let said = o.said;
+    let room = &mut lent.invokes[at..at + message::INVOKE_LENGTH];
+    let q = client::invoke(t.replica(i), kind, cell, amount, 0, room);
+    if trial_outcome::is_success(q.outcome) {
+        let m = lent.invoke_of(i);
+        let o = trial_offer::offer(t.server, t.lines, i, &m, &mut lent.replies);
         Moved {
-            replica,
-            server,
-            lines,
-            said,
+            replica: q.replica,
+            server: o.server,
+            lines: o.lines,
+            said: o.said,
         }
     } else {
-        let said = trial_outcome::told_said(outcome);
         Moved {
-            replica,
-            server: s,
-            lines: l,
-            said,
+            replica: q.replica,
+            server: t.server,
+            lines: t.lines,
+            said: trial_outcome::told_said(q.outcome),
         }
     }
 }
@@ -60,56 +43,49 @@ pub fn invoke(
 // ---- delivering
 
 // Client `i` + 1 takes the reply at the head of its line; its commit reaches the server without delay.
-fn deliver_reply(r: Replica, s: Server, l: Lines, i: usize, log: &mut [u8], replies: &[u8]) -> Moved
-    requires { (i < client_count) × (get_or l.lengths i 0 ≤ invoke_room) × (length log.old ≡ log_length) × (length replies.now ≡ replies_length) }
-    ensures { (invokes : List ℕ) → move_of result (lent_of log.new replies.now invokes)
-        ≡ reply_move r s l i (lent_of log.old replies.now invokes) }
+fn deliver_reply(t: &Trial, i: usize, lent: &mut Lent) -> Moved
+    requires { (i < client_count) × (get_or t.now.lines.lengths i 0 ≤ invoke_room) }
+    ensures { move_of result lent.new
+        ≡ reply_move (replica_of t.now i) t.now.server t.now.lines i lent.old }
 {
-    let lengths = l.lengths;
     let at = i * trial_core::INVOKE_ROOM;
-    let end = at + lengths[i] as usize;
+    let end = at + t.lines.lengths[i] as usize;
     let mut out = [0u8; message::COMMIT_LENGTH];
-    let q = client::receive(r, &replies[at..end], &mut out);
-    let outcome = q.outcome;
-    let replica = q.replica;
-    let said = trial_outcome::told_said(outcome);
-    if trial_outcome::is_success(outcome) {
-        let server = trial_commit::commit(s, i, &out, log);
-        let lines = trial_queue::without_reply(l, i);
+    let q = client::receive(t.replica(i), &lent.replies[at..end], &mut out);
+    let said = trial_outcome::told_said(q.outcome);
+    if trial_outcome::is_success(q.outcome) {
         Moved {
-            replica,
-            server,
-            lines,
+            replica: q.replica,
+            server: trial_commit::commit(t.server, i, &out, &mut lent.log),
+            lines: trial_queue::without_reply(t.lines, i),
             said,
         }
     } else {
         Moved {
-            replica,
-            server: s,
-            lines: l,
+            replica: q.replica,
+            server: t.server,
+            lines: t.lines,
             said,
         }
     }
 }
 
 // Client `i` + 1 takes the head of its line.
-pub fn deliver(r: Replica, s: Server, l: Lines, i: usize, log: &mut [u8], replies: &[u8]) -> Moved
-    requires { (i < client_count) × (length log.old ≡ log_length) × (length replies.now ≡ replies_length) }
-    ensures { (invokes : List ℕ) → move_of result (lent_of log.new replies.now invokes)
-        ≡ deliver_move r s l i (lent_of log.old replies.now invokes) }
+pub fn deliver(t: &Trial, i: usize, lent: &mut Lent) -> Moved
+    requires { i < client_count }
+    ensures { move_of result lent.new
+        ≡ deliver_move (replica_of t.now i) t.now.server t.now.lines i lent.old }
 {
-    if trial_queue::reply_first(l, i) {
-        deliver_reply(r, s, l, i, log, replies)
+    if trial_queue::reply_first(&t.lines, i) {
+        deliver_reply(t, i, lent)
+    } else if trial_queue::broadcast_first(&t.lines, i, t.server.passed) {
+        trial_broadcast::deliver_broadcast(t, i, &lent.log)
     } else {
-        if trial_queue::broadcast_first(l, i, s.passed) {
-            trial_broadcast::deliver_broadcast(r, s, l, i, log)
-        } else {
-            Moved {
-                replica: r,
-                server: s,
-                lines: l,
-                said: LineWord::Empty,
-            }
+        Moved {
+            replica: t.replica(i),
+            server: t.server,
+            lines: t.lines,
+            said: LineWord::Empty,
         }
     }
 }

@@ -12,7 +12,7 @@ use Rattle.trial_said.specs.Word.{Word, empty}
 use Rattle.server.specs.declared.Server.{Server}
 use Rattle.server.specs.Server.{ServerTold, Step, server_step}
 use Rattle.trial_core.specs.declared.Lines.{Lines}
-use Rattle.trial_core.specs.Trial.{Offering, is_placed, served_word, with_reply, with_refused, offered_lines, offer, has_place, offer_one, offer_to}
+use Rattle.trial_core.specs.Trial.{Offering, is_placed, served_word, with_reply, with_refused, offered_lines, offer, has_place, kept_invoke, offer_one, offer_to}
 use Rattle.trial_offer.specs.Offers.{unsaid, offered_one, offered_to}
 use Rattle.trial_offer.proofs.Parts.{over_fits, part_over, part_length, put_at}
 use Rattle.server_laws.proofs.State.{Sizes}
@@ -104,9 +104,9 @@ module _ (s : Server) (l : Lines) (i : ℕ) (replies invokes : List ℕ) where
   abbrev asked : Bool
   asked = get_or l.refused i false && has_place s
 
-  pub one_goes : (k : ℕ) → k ≡ 43 → asked ≡ true → unsaid (offer s l i (take k (drop (i * 43) invokes)) replies) ≡ offered_one s l i replies invokes
+  pub one_goes : asked ≡ true → unsaid (offer s l i (kept_invoke invokes i) replies) ≡ offered_one s l i replies invokes
   unfolding offered_one offer_one
-  one_goes k h e = rw (h, e)
+  one_goes e = rw e
 
   pub one_stays : asked ≡ false → ◌≡◌ {A = Offering} (record { server = s; lines = l; word = empty; replies = replies }) (offered_one s l i replies invokes)
   unfolding offered_one offer_one

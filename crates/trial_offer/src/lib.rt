@@ -4,12 +4,11 @@
 
 ghost use Rattle.std.specs.Prelude.{◌≡◌, cond, ◌+◌, ◌*◌, ◌<◌, get_or, length};
 ghost use Rattle.message.specs.Layout.{client_count, item_length, reply_head};
-ghost use Rattle.trial_core.specs.Sizes.{invokes_length, replies_length};
 ghost use Rattle.trial_core.specs.Trial.{with_reply, with_refused, offer};
 ghost use Rattle.trial_offer.specs.Offers.{offering_of, again_offering, offered_one, offered_to};
 
 use server::Server;
-use trial_core::Lines;
+use trial_core::{Lent, Lines};
 use trial_said::LineWord;
 
 // The server and the lines after an invoke is offered, and what that prints.
@@ -48,39 +47,41 @@ fn offered_lines(l: Lines, i: usize, placed: bool, passed: u32, length: u32) -> 
 }
 
 // The server takes the invoke `m` of client `i` + 1: placed, its reply goes to the client's line; refused, the invoke waits.
-pub fn offer(s: Server, l: Lines, i: usize, m: &[u8], replies: &mut [u8]) -> Offered
-    requires { (i < client_count) × (length replies.old ≡ replies_length) }
+pub fn offer(
+    s: Server,
+    l: Lines,
+    i: usize,
+    m: &[u8],
+    replies: &mut [u8; trial_core::REPLIES_LENGTH],
+) -> Offered
+    requires { i < client_count }
     ensures { offering_of result replies.new ≡ offer s l i m.now replies.old }
 {
     let at = i * trial_core::INVOKE_ROOM;
-    let end = at + trial_core::INVOKE_ROOM;
-    let q = server_receive::receive(s, (i + 1) as u8, m, &mut replies[at..end]);
-    let outcome = q.outcome;
-    let server = q.server;
+    let part = &mut replies[at..at + trial_core::INVOKE_ROOM];
+    let q = server_receive::receive(s, (i + 1) as u8, m, part);
     let length = reply_length(replies, at);
-    let placed = trial_outcome::is_placed(outcome);
-    let lines = offered_lines(l, i, placed, server.passed, length);
-    let said = trial_outcome::served_said(outcome);
+    let placed = trial_outcome::is_placed(q.outcome);
     Offered {
-        server,
-        lines,
-        said,
+        server: q.server,
+        lines: offered_lines(l, i, placed, q.server.passed, length),
+        said: trial_outcome::served_said(q.outcome),
     }
 }
 
 // Offers the refused invoke of client `i` + 1, if there is one and the server has a place.
-fn offer_one(s: Server, l: Lines, i: usize, replies: &mut [u8], invokes: &[u8]) -> Again
-    requires { (i < client_count) × (length replies.old ≡ replies_length) × (length invokes.now ≡ invokes_length) }
-    ensures { again_offering result replies.new ≡ offered_one s l i replies.old invokes.now }
+fn offer_one(s: Server, l: Lines, i: usize, lent: &mut Lent) -> Again
+    requires { i < client_count }
+    ensures { (again_offering result lent.new.replies ≡ offered_one s l i lent.old.replies lent.old.invokes)
+        × (lent.new.log ≡ lent.old.log) × (lent.new.invokes ≡ lent.old.invokes) }
 {
-    let refused = l.refused;
-    if refused[i] & trial_room::has_place(s) {
-        let at = i * message::INVOKE_LENGTH;
-        let end = at + message::INVOKE_LENGTH;
-        let o = offer(s, l, i, &invokes[at..end], replies);
-        let server = o.server;
-        let lines = o.lines;
-        Again { server, lines }
+    if l.refused[i] && trial_room::has_place(&s) {
+        let m = lent.invoke_of(i);
+        let o = offer(s, l, i, &m, &mut lent.replies);
+        Again {
+            server: o.server,
+            lines: o.lines,
+        }
     } else {
         Again {
             server: s,
@@ -90,21 +91,16 @@ fn offer_one(s: Server, l: Lines, i: usize, replies: &mut [u8], invokes: &[u8]) 
 }
 
 // Offers the refused invokes again, lowest client first.
-pub fn offer_again(s: Server, l: Lines, replies: &mut [u8], invokes: &[u8]) -> Again
-    requires { (length replies.old ≡ replies_length) × (length invokes.now ≡ invokes_length) }
-    ensures { again_offering result replies.new ≡ offered_to client_count s l replies.old invokes.now }
+pub fn offer_again(s: Server, l: Lines, lent: &mut Lent) -> Again
+    ensures { (again_offering result lent.new.replies ≡ offered_to client_count s l lent.old.replies lent.old.invokes)
+        × (lent.new.log ≡ lent.old.log) × (lent.new.invokes ≡ lent.old.invokes) }
 {
-    let mut server = s;
-    let mut lines = l;
-    let mut left = trial_core::CLIENTS;
-    while 0 < left {
-        let i = trial_core::CLIENTS - left;
-        let o = offer_one(server, lines, i, replies, invokes);
-        let after = o.server;
-        let now = o.lines;
-        server = after;
-        lines = now;
-        left -= 1;
+    let mut after = Again {
+        server: s,
+        lines: l,
+    };
+    for i in 0..trial_core::CLIENTS {
+        after = offer_one(after.server, after.lines, i, lent);
     }
-    Again { server, lines }
+    after
 }

@@ -8,65 +8,59 @@ ghost use Rattle.trial_core.specs.Trial.{with_reply, with_refused, without_reply
 use trial_core::Lines;
 
 // The lines with a reply at the end of that to client `i` + 1, which now has no invoke to be offered again.
-pub fn with_reply(l: Lines, i: usize, passed: u32, length: u32) -> Lines
+#[tactic(auto, unfolding(trial_core::specs::Trial::with_reply))]
+pub fn with_reply(mut l: Lines, i: usize, passed: u32, length: u32) -> Lines
     requires { i < client_count }
     ensures { result ≡ with_reply l i passed length }
 {
-    let mut t = l;
-    t.before[i] = passed;
-    t.lengths[i] = length;
-    t.refused[i] = false;
-    t
+    l.before[i] = passed;
+    l.lengths[i] = length;
+    l.refused[i] = false;
+    l
 }
 
 // The lines with the invoke of client `i` + 1 to be offered again.
-pub fn with_refused(l: Lines, i: usize) -> Lines
+#[tactic(auto, unfolding(trial_core::specs::Trial::with_refused))]
+pub fn with_refused(mut l: Lines, i: usize) -> Lines
     requires { i < client_count }
     ensures { result ≡ with_refused l i }
 {
-    let mut t = l;
-    t.refused[i] = true;
-    t
+    l.refused[i] = true;
+    l
 }
 
 // The lines without the reply to client `i` + 1.
-pub fn without_reply(l: Lines, i: usize) -> Lines
+#[tactic(auto, unfolding(trial_core::specs::Trial::without_reply))]
+pub fn without_reply(mut l: Lines, i: usize) -> Lines
     requires { i < client_count }
     ensures { result ≡ without_reply l i }
 {
-    let mut t = l;
-    t.lengths[i] = 0;
-    t
+    l.lengths[i] = 0;
+    l
 }
 
 // The lines without the broadcast that is next to client `i` + 1.
-pub fn without_broadcast(l: Lines, i: usize, passed: u32) -> Lines
+#[tactic(auto, unfolding(trial_core::specs::Trial::without_broadcast))]
+pub fn without_broadcast(mut l: Lines, i: usize, passed: u32) -> Lines
     requires { (i < client_count) × (broadcast_first l i passed ≡ true) }
     ensures { result ≡ without_broadcast l i }
 {
-    let next = l.next;
-    let taken = next[i] + 1;
-    let mut t = l;
-    t.next[i] = taken;
-    t
+    l.next[i] += 1;
+    l
 }
 
 // Whether the head of the line to client `i` + 1 is its reply.
-pub fn reply_first(l: Lines, i: usize) -> bool
+pub fn reply_first(l: &Lines, i: usize) -> bool
     requires { i < client_count }
-    ensures { result ≡ reply_first l i }
+    ensures { result ≡ reply_first l.now i }
 {
-    let next = l.next;
-    let before = l.before;
-    let lengths = l.lengths;
-    (lengths[i] != 0) & (lengths[i] <= trial_core::INVOKE_ROOM as u32) & (before[i] == next[i])
+    l.lengths[i] != 0 && l.lengths[i] <= trial_core::INVOKE_ROOM as u32 && l.before[i] == l.next[i]
 }
 
 // Whether a broadcast is next to client `i` + 1, where it is not the reply.
-pub fn broadcast_first(l: Lines, i: usize, passed: u32) -> bool
+pub fn broadcast_first(l: &Lines, i: usize, passed: u32) -> bool
     requires { i < client_count }
-    ensures { result ≡ broadcast_first l i passed }
+    ensures { result ≡ broadcast_first l.now i passed }
 {
-    let next = l.next;
-    next[i] < passed
+    l.next[i] < passed
 }

@@ -1,8 +1,8 @@
 -- The keys, one after the other, and the start. Assumes nothing.
 use Prim.Native.Nat.{ℕ, zero, suc, ◌+◌, ◌*◌, ◌≤◌}
-use mathlib.Core.Path.{◌≡◌, refl, ap, ◌∙◌}
+use mathlib.Core.Path.{◌≡◌, refl, sym, ap, ◌∙◌}
 use mathlib.Core.List.{List, [], ◌∷◌, ◌++◌, append-nil}
-use lib.ListN.{length, drop, replicate, length-append, length-replicate, drop_of_length-le}
+use lib.ListN.{length, take, drop, replicate, length-append, length-replicate, drop_of_length-le}
 use native.Mathlib.Omega.{arith}
 use native.Mathlib.Numerals.{add-one}
 use Rattle.slices.specs.Bytes.{put}
@@ -13,6 +13,7 @@ use Rattle.server.specs.declared.Server.{Server}
 use Rattle.server.specs.Server.{fresh_server}
 use Rattle.trial_core.specs.declared.Lines.{Lines}
 use Rattle.trial_core.specs.declared.Trial.{Trial}
+use Rattle.trial_core.proofs.Parts.{part_put}
 use Rattle.trial_core.specs.Trial.{keys_to, trial_keys, replicas_to, start_trial}
 
 keys_length_lem : (n : ℕ) → length (keys_to n) ≡ n * 32
@@ -25,15 +26,20 @@ unfolding keys_to
 keys_none z = refl
 
 -- one more key
-pub keys_more : (z keys k : List ℕ) (i : ℕ) → keys ≡ keys_to i ++ drop (i * 32) z → k ≡ replicate 32 (i + 1)
+keys_put : (z keys k : List ℕ) (i : ℕ) → keys ≡ keys_to i ++ drop (i * 32) z → k ≡ replicate 32 (i + 1)
     → put keys (i * 32) k ≡ keys_to (i + 1) ++ drop ((i + 1) * 32) z
 unfolding keys_to
-keys_more z keys k i e h =
+keys_put z keys k i e h =
     let l : length k ≡ 32 = ap length h ∙ length-replicate 32 (i + 1) in
     let s : k ≡ replicate 32 (suc i) = h ∙ ap (λ (n : ℕ). replicate 32 n) (add-one i) in
     let p : put (keys_to i ++ drop (i * 32) z) (i * 32) k ≡ keys_to i ++ k ++ drop ((i + 1) * 32) z = put_next (keys_to i) z k (i * 32) ((i + 1) * 32) (keys_length_lem i) (omega arith) in
     let m : keys_to i ++ k ≡ keys_to (i + 1) = rw (add-one i) (ap (λ (x : List ℕ). keys_to i ++ x) s) in
     ap (λ (x : List ℕ). put x (i * 32) k) e ∙ p ∙ ap (λ (x : List ℕ). x ++ drop ((i + 1) * 32) z) m
+
+pub keys_more : (z keys k : List ℕ) (i n : ℕ) → n ≡ 32 → keys ≡ keys_to i ++ drop (i * 32) z → k ≡ replicate 32 (i + 1)
+    → take (i * 32) keys ++ (k ++ drop n (drop (i * 32) keys)) ≡ keys_to (i + 1) ++ drop ((i + 1) * 32) z
+keys_more z keys k i n en e h =
+    part_put keys k (i * 32) n (ap length h ∙ length-replicate 32 (i + 1) ∙ sym en) ∙ keys_put z keys k i e h
 
 pub keys_all : (z keys : List ℕ) (i : ℕ) → length z ≡ 256 → i ≡ 8 → keys ≡ keys_to i ++ drop (i * 32) z → keys ≡ keys_to 8
 keys_all z keys i l h e =

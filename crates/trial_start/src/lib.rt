@@ -2,18 +2,12 @@
 #![tactic(auto)]
 
 ghost use Rattle.std.specs.Prelude.{◌≡◌, replicate};
-ghost use Rattle.message.specs.Layout.{key_length, keys_length};
+ghost use Rattle.message.specs.Layout.{keys_length};
 ghost use Rattle.client_open.specs.Open.{open_step};
-ghost use Rattle.trial_core.specs.Trial.{trial_keys, start_trial};
+ghost use Rattle.trial_core.specs.Trial.{trial_keys, start_trial, start_lent};
 
 use replica::Replica;
-use trial_core::{Lines, Trial};
-
-fn key(n: u8) -> [u8; message::KEY_LENGTH]
-    ensures { result ≡ replicate key_length n }
-{
-    [n; message::KEY_LENGTH]
-}
+use trial_core::{Lent, Lines, Trial};
 
 fn no_keys() -> [u8; message::KEYS_LENGTH]
     ensures { result ≡ replicate keys_length 0 }
@@ -26,11 +20,9 @@ fn keys() -> [u8; message::KEYS_LENGTH]
     ensures { result ≡ trial_keys }
 {
     let mut keys = no_keys();
-    let mut i = 0usize;
-    while i < trial_core::CLIENTS {
-        let k = key((i + 1) as u8);
-        slices::copy_to(&mut keys, i * message::KEY_LENGTH, &k);
-        i += 1;
+    for i in 0..trial_core::CLIENTS {
+        let at = i * message::KEY_LENGTH;
+        keys[at..at + message::KEY_LENGTH].copy_from_slice(&[(i + 1) as u8; message::KEY_LENGTH]);
     }
     keys
 }
@@ -38,18 +30,17 @@ fn keys() -> [u8; message::KEYS_LENGTH]
 fn opened(number: u8) -> Replica
     ensures { result ≡ (open_step number trial_keys).replica }
 {
-    let keys = keys();
-    let q = client::open(number, &keys);
-    q.replica
+    client::open(number, &keys()).replica
 }
 
+#[tactic(auto, unfolding(trial_core::specs::Trial::start_trial))]
 fn no_lines() -> Lines
     ensures { result ≡ start_trial.lines }
 {
     Lines {
-        next: [0u32; trial_core::CLIENTS],
-        before: [0u32; trial_core::CLIENTS],
-        lengths: [0u32; trial_core::CLIENTS],
+        next: [0; trial_core::CLIENTS],
+        before: [0; trial_core::CLIENTS],
+        lengths: [0; trial_core::CLIENTS],
         refused: [false; trial_core::CLIENTS],
     }
 }
@@ -58,19 +49,30 @@ fn no_lines() -> Lines
 pub fn start() -> Trial
     ensures { result ≡ start_trial }
 {
-    let a = opened(1);
-    let b = opened(2);
-    let c = opened(3);
-    let d = opened(4);
-    let e = opened(5);
-    let f = opened(6);
-    let g = opened(7);
-    let h = opened(8);
-    let server = server::fresh();
-    let lines = no_lines();
     Trial {
-        replicas: [a, b, c, d, e, f, g, h],
-        server,
-        lines,
+        replicas: [
+            opened(1),
+            opened(2),
+            opened(3),
+            opened(4),
+            opened(5),
+            opened(6),
+            opened(7),
+            opened(8),
+        ],
+        server: server::fresh(),
+        lines: no_lines(),
+    }
+}
+
+// The bytes lent at the start: all zero.
+#[tactic(auto, unfolding(trial_core::specs::Trial::start_lent))]
+pub fn fresh_lent() -> Lent
+    ensures { result ≡ start_lent }
+{
+    Lent {
+        log: [0; trial_core::LOG_LENGTH],
+        replies: [0; trial_core::REPLIES_LENGTH],
+        invokes: [0; trial_core::INVOKES_LENGTH],
     }
 }

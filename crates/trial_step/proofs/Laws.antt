@@ -16,14 +16,10 @@ use Rattle.trial_core.specs.Moves.{lent_of}
 use Rattle.trial_store.specs.Step.{trial_with}
 use Rattle.trial_store.proofs.Laws.{move-line}
 
-module _ (t : Trial) (n : ℕ) (e : is_client n ≡ true) (b : Lent) where
-  pub line-deliver : {r : Replica} → r ≡ replica_of t (n - 1)
-      → {m : Move} → m ≡ deliver_move r t.server t.lines (n - 1) b
-      → {k : Trial} → k ≡ trial_with (set t.replicas (n - 1) m.replica) m.server m.lines
-      → ◌≡◌ {A = LineStep} (record { trial = k; lent = lent_of m.log m.replies m.invokes; van = n; word = m.word }) (command_step t b (deliver n))
-  unfolding command_step
-  line-deliver er {m} em ek =
-      rw e (move-line t n e m ek ∙ ap (λ (x : Move). moved t (n - 1) x) (em ∙ ap (λ (x : Replica). deliver_move x t.server t.lines (n - 1) b) er))
+pub line-deliver : (t : Trial) (n : ℕ) (e : is_client n ≡ true) (b : Lent) {m : Move} → m ≡ deliver_move (replica_of t (n - 1)) t.server t.lines (n - 1) b
+    → moved t (n - 1) m ≡ command_step t b (deliver n)
+unfolding command_step
+line-deliver t n e b em = rw e (ap (λ (x : Move). moved t (n - 1) x) em)
 
 -- ---- a line of another form
 module _ (t : Trial) (n : ℕ) (e : is_client n ≡ false) (b : Lent) where
@@ -40,18 +36,18 @@ unfolding command_step
 bad_other t b = refl
 
 -- ---- offering again
-module _ (t : Trial) (log replies invokes : List ℕ) {s : Server} {l : Lines} {now : List ℕ}
-    (e : ◌≡◌ {A = Offering} (record { server = s; lines = l; word = empty; replies = now }) (offered_to 8 t.server t.lines replies invokes)) where
-  pub again_trial_lem : trial_with t.replicas s l ≡ again_trial t (again_of t (lent_of log replies invokes))
+module _ (t : Trial) (b : Lent) {s : Server} {l : Lines} {now : List ℕ}
+    (e : ◌≡◌ {A = Offering} (record { server = s; lines = l; word = empty; replies = now }) (offered_to 8 t.server t.lines b.replies b.invokes)) where
+  pub again_trial_lem : trial_with t.replicas s l ≡ again_trial t (again_of t b)
   unfolding offered_to again_of again_trial
   again_trial_lem = ap (λ (o : Offering). trial_with t.replicas o.server o.lines) e
 
-  pub again_replies : now ≡ (again_of t (lent_of log replies invokes)).replies
-  unfolding offered_to again_of
-  again_replies = ap (λ (o : Offering). o.replies) e
+  pub again_lent_lem : lent_of b.log now b.invokes ≡ again_lent b (again_of t b)
+  unfolding offered_to again_of again_lent
+  again_lent_lem = ap (λ (o : Offering). lent_of b.log o.replies b.invokes) e
 
-pub again_line : (t : Trial) (log replies invokes : List ℕ) (a : Asked) {u : Trial} {now : List ℕ}
-    → u ≡ again_trial t (again_of t (lent_of log replies invokes)) → now ≡ (again_of t (lent_of log replies invokes)).replies
-    → command_step u (lent_of log now invokes) a ≡ line_step t (lent_of log replies invokes) a
-unfolding line_step again_lent
-again_line t log replies invokes a eu en = rw (eu, en)
+pub again_line : (t : Trial) (b : Lent) (a : Asked) {u : Trial} {now : Lent}
+    → u ≡ again_trial t (again_of t b) → now ≡ again_lent b (again_of t b)
+    → command_step u now a ≡ line_step t b a
+unfolding line_step
+again_line t b a eu en = rw (eu, en)

@@ -1,66 +1,42 @@
 // One line of the trial program's input (document 01, "Cases"). Definitions: specs/Trial.antt of trial_core.
 #![tactic(auto)]
 
-ghost use Rattle.std.specs.Prelude.{◌≡◌, List, true, ℕ, length};
-ghost use Rattle.trial_core.specs.Sizes.{invokes_length, log_length, replies_length};
+ghost use Rattle.std.specs.Prelude.{◌≡◌, true};
 ghost use Rattle.trial_words.specs.Words.{asked, deliver};
-ghost use Rattle.trial_core.specs.Trial.{is_client, again_of, again_trial, command_step, line_step};
-ghost use Rattle.trial_core.specs.Moves.{lent_of};
+ghost use Rattle.trial_core.specs.Trial.{is_client, again_of, again_trial, again_lent, command_step, line_step};
 ghost use Rattle.trial_store.specs.Step.{line_of};
 
-use trial_core::Trial;
-use trial_store::Result;
+use trial_core::{Lent, Trial};
+use trial_store::Stepped;
 use trial_words::Command;
 
 // ---- a command
 
 // A client takes the head of its line.
-fn deliver(t: Trial, van: u8, log: &mut [u8], replies: &[u8]) -> Result
-    requires { (is_client van ≡ true) × (length log.old ≡ log_length) × (length replies.now ≡ replies_length) }
-    ensures { (invokes : List ℕ) → line_of result (lent_of log.new replies.now invokes)
-        ≡ command_step t (lent_of log.old replies.now invokes) (deliver van) }
+fn deliver(t: Trial, van: u8, lent: &mut Lent) -> Stepped
+    requires { is_client van ≡ true }
+    ensures { line_of result lent.new ≡ command_step t lent.old (deliver van) }
 {
-    let s = t.server;
-    let l = t.lines;
     let i = (van - 1) as usize;
-    let replicas = t.replicas;
-    let r = trial_store::replica_at(replicas, i);
-    let m = trial_moves::deliver(r, s, l, i, log, replies);
-    let said = m.said;
-    let trial = trial_store::stored(replicas, i, m);
-    Result { trial, van, said }
+    let m = trial_moves::deliver(&t, i, lent);
+    trial_store::stored(t, van, m)
 }
 
 // The trial after the refused invokes are offered again.
-fn offered_again(t: Trial, replies: &mut [u8], invokes: &[u8]) -> Trial
-    requires { (length replies.old ≡ replies_length) × (length invokes.now ≡ invokes_length) }
-    ensures { (log : List ℕ) → (result ≡ again_trial t (again_of t (lent_of log replies.old invokes.now)))
-        × (replies.new ≡ (again_of t (lent_of log replies.old invokes.now)).replies) }
+fn offered_again(t: Trial, lent: &mut Lent) -> Trial
+    ensures { (result ≡ again_trial t (again_of t lent.old)) × (lent.new ≡ again_lent lent.old (again_of t lent.old)) }
 {
-    let s = t.server;
-    let l = t.lines;
-    let o = trial_offer::offer_again(s, l, replies, invokes);
-    let server = o.server;
-    let lines = o.lines;
-    let replicas = t.replicas;
+    let o = trial_offer::offer_again(t.server, t.lines, lent);
     Trial {
-        replicas,
-        server,
-        lines,
+        server: o.server,
+        lines: o.lines,
+        ..t
     }
 }
 
 // What a command does, once the refused invokes have been offered again.
-fn obeyed(
-    t: Trial,
-    command: Command,
-    log: &mut [u8],
-    replies: &mut [u8],
-    invokes: &mut [u8],
-) -> Result
-    requires { (length log.old ≡ log_length) × (length replies.old ≡ replies_length) × (length invokes.old ≡ invokes_length) }
-    ensures { line_of result (lent_of log.new replies.new invokes.new)
-        ≡ command_step t (lent_of log.old replies.old invokes.old) (asked command) }
+fn obeyed(t: Trial, command: Command, lent: &mut Lent) -> Stepped
+    ensures { line_of result lent.new ≡ command_step t lent.old (asked command) }
 {
     match command {
         Command::Invoke {
@@ -70,14 +46,14 @@ fn obeyed(
             amount,
         } => {
             if trial_store::is_client(van) {
-                trial_admit::invoke(t, van, kind, cell, amount, replies, invokes)
+                trial_admit::invoke(t, van, kind, cell, amount, lent)
             } else {
                 trial_store::bad(t)
             }
         }
         Command::Deliver(van) => {
             if trial_store::is_client(van) {
-                deliver(t, van, log, replies)
+                deliver(t, van, lent)
             } else {
                 trial_store::bad(t)
             }
@@ -87,16 +63,9 @@ fn obeyed(
 }
 
 // One line of input.
-pub fn step(
-    trial: Trial,
-    command: Command,
-    log: &mut [u8; trial_core::LOG_LENGTH],
-    replies: &mut [u8; trial_core::REPLIES_LENGTH],
-    invokes: &mut [u8; trial_core::INVOKES_LENGTH],
-) -> Result
-    ensures { line_of result (lent_of log.new replies.new invokes.new)
-        ≡ line_step trial (lent_of log.old replies.old invokes.old) (asked command) }
+pub fn step(trial: Trial, command: Command, lent: &mut Lent) -> Stepped
+    ensures { line_of result lent.new ≡ line_step trial lent.old (asked command) }
 {
-    let t = offered_again(trial, replies, invokes);
-    obeyed(t, command, log, replies, invokes)
+    let t = offered_again(trial, lent);
+    obeyed(t, command, lent)
 }

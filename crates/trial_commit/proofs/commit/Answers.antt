@@ -9,7 +9,7 @@ append-requires c =
     let q = c.receive-q in
     let sz : Sizes a.s = record { counts = search rules; items = search rules; statuses = search rules; digests = search rules; tags = search rules } in
     let z = c.broadcast_buffer-out.ensures in
-    (commit_fits a.s (a.i + 1) a.m.now c.broadcast_buffer-out.result a.log.now sz z q.new.out q.ensures.2 q.ensures.1 c.broadcast_count-n.ensures, c.requires.1)
+    commit_fits a.s (a.i + 1) a.m.now c.broadcast_buffer-out.result a.log.now sz z q.new.out q.ensures.2 q.ensures.1 c.broadcast_count-n.ensures
 
 pub returns : goal.returns
 returns c =

@@ -96,10 +96,7 @@ loop-filled-preserved c =
     let j = c.loop-filled.invariant.0 in
     (j, so_more k f.result _ _ _ _ f.ensures g (omega (arith, j, c.loop-filled-test.true, k.room)) c.parse-command.ensures c.answer-q.ensures)
 
-pub shape_of-out : goal.shape_of-out
-shape_of-out c = c.loop-filled.invariant.1.same
-
-pub returns : goal.returns
-returns c =
+pub returns-after-loop-filled : goal.returns-after-loop-filled
+returns-after-loop-filled c =
     let k = c.loop-filled.invariant in
     so_ends k.1 (inr (omega (arith, k.0, c.loop-filled-test.false, k.1.room)))

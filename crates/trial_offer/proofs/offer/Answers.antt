@@ -11,12 +11,13 @@ returns c =
     let e : a.i * 1315 + 1315 - a.i * 1315 ≡ 1315 = omega arith in
     let y : List ℕ = q.new.out in
     let lo : length y ≡ length (take (a.i * 1315 + 1315 - a.i * 1315) (drop (a.i * 1315) a.replies.now)) = search rules in
-    offered_part a.s a.l a.i a.m.now a.replies.now c.requires.0 c.requires.1 y (a.i * 1315 + 1315 - a.i * 1315) e sz
+    let z : length a.replies.now ≡ 10520 = search rules in
+    offered_part a.s a.l a.i a.m.now a.replies.now c.requires z y (a.i * 1315 + 1315 - a.i * 1315) e sz
     q.ensures.0
     q.ensures.1
     q.ensures.2
     lo
     c.reply_length-length.ensures
     c.is_placed-placed.ensures
-    c.offered_lines-lines.ensures
-    c.served_said-said.ensures
+    c.offered_lines.ensures
+    c.served_said.ensures

@@ -1,26 +1,19 @@
-use Rattle.std.proofs.Common.{◌≡◌, ◌∙◌, ℕ, ◌+◌, ◌-◌, ap, length, arith, rules}
+use mathlib.Core.Path.{refl, ap, ◌∙◌}
 use Rattle.trial_offer.proofs.Offers.{to_none, to_more}
-use Rattle.trial_offer.specs.Offers.{offered_to}
+use Rattle.trial_offer.specs.Offers.{offered_one}
 use Rattle.trial_offer.proofs.offer_again.Goals as goal
 
-pub loop-left-init : goal.loop-left-init
-loop-left-init c = let a = c.args in (to_none a.s a.l a.replies.now a.invokes.now, search rules, c.requires.0)
+pub loop-i-init : goal.loop-i-init
+loop-i-init c = let a = c.args in (to_none a.s a.l a.lent.now.replies a.lent.now.invokes, refl, refl)
 
-pub loop-left-preserved : goal.loop-left-preserved
-loop-left-preserved c =
+pub loop-i-preserved : goal.loop-i-preserved
+loop-i-preserved c =
     let a = c.args in
-    let o = c.loop-left in
-    let q = c.offer_one-o in
-    let n : 8 - o.left + 1 ≡ 8 - (o.left - 1) = omega arith in
-    let l : length q.new.replies ≡ length o.replies = search rules in (
-      q.ensures ∙ to_more (8 - o.left) a.s a.l a.replies.now a.invokes.now o.server o.lines o.replies o.invariant.0
-          ∙ ap (λ (x : ℕ). offered_to x a.s a.l a.replies.now a.invokes.now) n,
-      search rules,
-      l ∙ o.invariant.2,
+    let o = c.loop-i in
+    let q = c.offer_one-after.ensures in
+    let b = a.lent.now in (
+      q.0 ∙ ap (λ x. offered_one o.after.server o.after.lines o.i o.lent.replies x) o.invariant.2
+          ∙ to_more o.i a.s a.l b.replies b.invokes o.after.server o.after.lines o.lent.replies o.invariant.0,
+      q.1 ∙ o.invariant.1,
+      q.2 ∙ o.invariant.2,
     )
-
-pub returns : goal.returns
-returns c =
-    let a = c.args in
-    let e : 8 - c.loop-left.left ≡ 8 = omega arith in
-    c.loop-left.invariant.0 ∙ ap (λ (x : ℕ). offered_to x a.s a.l a.replies.now a.invokes.now) e

@@ -1,12 +1,14 @@
-use Rattle.std.proofs.Common.{◌≡◌, ◌∙◌, length, rules}
+use Rattle.std.proofs.Common.{◌≡◌, ◌∙◌, ◌+◌, ◌-◌, ◌*◌, length, replicate, rules, arith}
 use Rattle.trial_start.proofs.Laws.{keys_none, keys_more}
 use Rattle.trial_start.proofs.keys.Goals as goal
 
 pub loop-i-init : goal.loop-i-init
-loop-i-init c = (keys_none c.no_keys-keys.result, search rules, search rules)
+loop-i-init c = keys_none c.no_keys-keys.result
 
 pub loop-i-preserved : goal.loop-i-preserved
 loop-i-preserved c =
     let o = c.loop-i in
-    let l : length c.copy_to.new.dst ≡ length o.keys = search rules in
-    (c.copy_to.ensures ∙ keys_more c.no_keys-keys.result o.keys c.key-k.result o.i o.invariant.0 c.key-k.ensures, search rules, l ∙ o.invariant.2)
+    let q = c.copy_from_slice in
+    let n : o.i * 32 + 32 - o.i * 32 ≡ 32 = omega arith in
+    let e : q.new.self ≡ replicate 32 (o.i + 1) = search rules in
+    keys_more c.no_keys-keys.result o.keys q.new.self o.i (o.i * 32 + 32 - o.i * 32) n o.invariant e

@@ -4,6 +4,6 @@ use Rattle.trial_start.proofs.start.Goals as goal
 pub returns : goal.returns
 returns c =
     started
-    (eight c.opened-a.ensures c.opened-b.ensures c.opened-c.ensures c.opened-d.ensures c.opened-e.ensures c.opened-f.ensures c.opened-g.ensures c.opened-h.ensures)
-    c.fresh-server.ensures
-    c.no_lines-lines.ensures
+    (eight c.opened.ensures c.opened-2.ensures c.opened-3.ensures c.opened-4.ensures c.opened-5.ensures c.opened-6.ensures c.opened-7.ensures c.opened-8.ensures)
+    c.fresh.ensures
+    c.no_lines.ensures

@@ -6,5 +6,5 @@ use Rattle.trial_step.proofs.step.Goals as goal
 pub returns : goal.returns
 returns c =
     let a = c.args in
-    let q = c.offered_again-t.ensures a.log.now in
-    c.obeyed.ensures ∙ again_line a.trial a.log.now a.replies.now a.invokes.now (asked a.command) q.0 q.1
+    let q = c.offered_again-t.ensures in
+    c.obeyed.ensures ∙ again_line a.trial a.lent.now (asked a.command) q.0 q.1
