@@ -6,18 +6,17 @@ use mathlib.Core.List.{List, [], ◌∷◌, ◌++◌}
 use mathlib.Core.Bool.{Bool, true, false, not}
 use lib.ListN.{set, replicate}
 use borrow.Author.Tests.{not-true}
+use Rattle.std.specs.Prelude.{Ok, Err}
 use Rattle.slices.specs.Bytes.{all, same}
 use Rattle.text.specs.Text.{on_first, cut, number_of, horner}
 use Rattle.log_lines.specs.Lines.{less_return, piece_lines, lines}
 use Rattle.log_quotes.specs.Quotes.{start, by_mark, move, may_end, sound_from, in_first, split, sound, fields}
 use Rattle.log_names.specs.Names.{times, column}
 use Rattle.meter_log.specs.declared.Refusal.TheVariants as N
-use Rattle.meter_log.specs.declared.Reading.{Reading}
-use Rattle.meter_log.specs.declared.Reading.TheVariants as R
 use Rattle.log_number.specs.Number.{number, warm, cold, temperature}
 use Rattle.log_entry.specs.Entry.{reported}
 use Rattle.log_columns.specs.Columns.{cell_name, flow_name, temp_name, header_ok, columns_of}
-use Rattle.meter_log.specs.Reading.{header_of}
+use Rattle.meter_log.specs.Reading.{Reading, header_of}
 use Rattle.meter_log.specs.Reading.{reading_of, line_ok, read_columns, read_line}
 use Rattle.meter_log.specs.Log.{read_all, read_lines, read_log}
 use Rattle.meter_log_laws.specs.Grammar.{Field}
@@ -141,7 +140,7 @@ unfolding read add_text add_pieces add_at insert_at join comma_each glue return_
 read_with k fs t = read_log (add_text k fs t)
 
 -- what the log comes to
-log_read : read_log log ≡ R.Made (reported 1 2 3) ∷ []
+log_read : read_log log ≡ Ok (reported 1 2 3) ∷ []
 unfolding read
 log_read = refl
 
@@ -150,52 +149,52 @@ abbrev Needs : ℕ → ℕ → List ℕ → List ℕ → List Reading → Type 0
 Needs n k name f rs = (meets name f ≡ all_but n) × (read_log (add_text k (filled name f) log) ≡ rs)
 
 -- sound quoting of the name
-needs_sound_name : Needs 0 0 quote ex (R.Refused N.Header ∷ [])
+needs_sound_name : Needs 0 0 quote ex (Err N.Header ∷ [])
 unfolding read_with
 needs_sound_name = (refl, refl)
 
 -- and of a later field
-needs_sound_field : Needs 1 0 ex quote (R.Refused N.Fields ∷ [])
+needs_sound_field : Needs 1 0 ex quote (Err N.Fields ∷ [])
 unfolding read_with
 needs_sound_field = (refl, refl)
 
 -- no line feed in the name
-needs_no_feed_name : Needs 2 0 feed ex (R.Refused N.Header ∷ R.Refused N.Header ∷ [])
+needs_no_feed_name : Needs 2 0 feed ex (Err N.Header ∷ Err N.Header ∷ [])
 unfolding read_with
 needs_no_feed_name = (refl, refl)
 
 -- nor in a later field
-needs_no_feed_field : Needs 3 0 ex feed (R.Refused N.Fields ∷ R.Refused N.Fields ∷ [])
+needs_no_feed_field : Needs 3 0 ex feed (Err N.Fields ∷ Err N.Fields ∷ [])
 unfolding read_with
 needs_no_feed_field = (refl, refl)
 
 -- no carriage return in the name: it would go with the line's end, and `cell` would stand there twice
-needs_no_return : Needs 4 3 return ex (R.Refused N.Header ∷ [])
+needs_no_return : Needs 4 3 return ex (Err N.Header ∷ [])
 unfolding read_with
 needs_no_return = (refl, refl)
 
 -- "another name"
-needs_not_cell : Needs 5 0 cell_name ex (R.Refused N.Header ∷ [])
+needs_not_cell : Needs 5 0 cell_name ex (Err N.Header ∷ [])
 unfolding read_with
 needs_not_cell = (refl, refl)
 
-needs_not_flow : Needs 6 0 flow_name ex (R.Refused N.Header ∷ [])
+needs_not_flow : Needs 6 0 flow_name ex (Err N.Header ∷ [])
 unfolding read_with
 needs_not_flow = (refl, refl)
 
-needs_not_temp : Needs 7 0 temp_name ex (R.Refused N.Header ∷ [])
+needs_not_temp : Needs 7 0 temp_name ex (Err N.Header ∷ [])
 unfolding read_with
 needs_not_temp = (refl, refl)
 
 -- "one position in all lines": with x before the names and 4 after the values, the three stand under other names
 needs_one_position :
-    (read_line (header_of names) values ≡ R.Made (reported 1 2 3))
-    × (read_line (header_of (add_at 0 ex names)) (add_at 3 (52 ∷ []) values) ≡ R.Made (reported 2 3 4))
+    (read_line (header_of names) values ≡ Ok (reported 1 2 3))
+    × (read_line (header_of (add_at 0 ex names)) (add_at 3 (52 ∷ []) values) ≡ Ok (reported 2 3 4))
 unfolding read_with
 needs_one_position = (refl, refl)
 
 -- a carriage return in a later field, `x CR` before the line feed, goes with the line's end and does no harm
-return_in_field : read_log (add_text 3 (filled ex (120 ∷ 13 ∷ [])) log) ≡ R.Made (reported 1 2 3) ∷ []
+return_in_field : read_log (add_text 3 (filled ex (120 ∷ 13 ∷ [])) log) ≡ Ok (reported 1 2 3) ∷ []
 unfolding read_with
 return_in_field = refl
 
@@ -218,6 +217,6 @@ any_order :
     ++ (44 ∷ 44 ∷ flow_name)
     ++ (44 ∷ 34 ∷ 34 ∷ 44 ∷ cell_name)
     ++ (13 ∷ 10 ∷ 45 ∷ 53 ∷ 44 ∷ 34 ∷ 97 ∷ 44 ∷ 98 ∷ 34 ∷ 44 ∷ 50 ∷ 53 ∷ 53 ∷ 44 ∷ 44 ∷ 49 ∷ 53 ∷ []))
-    ≡ R.Made (reported 15 255 251) ∷ []
+    ≡ Ok (reported 15 255 251) ∷ []
 unfolding read
 any_order = refl

@@ -10,6 +10,7 @@ use lib.Dec.{eqb, leb}
 use lib.IntN.{ℤ, pos, negsuc, sub_ℕ}
 use lib.Signed.{le_z}
 use borrow.Author.Tests.{eqb-true, leb-true, le-leb, lt-ltb}
+use Rattle.std.specs.Prelude.{Some, None, Ok, Err}
 use Rattle.slices.specs.Bytes.{all}
 use Rattle.slices.proofs.Laws.{and_yes}
 use Rattle.text.specs.Text.{is_digit, non_empty, horner, number_of}
@@ -18,15 +19,11 @@ use Rattle.operation.specs.declared.Operation.{Operation}
 use Rattle.operation.specs.Operation.{signed, temp_ok, last_byte_ok, allowed}
 use Rattle.operation.proofs.Signed.{signed_low, signed_high}
 use Rattle.log_columns.specs.declared.Columns.{Columns}
-use Rattle.meter_log.specs.declared.Header.{Header}
-use Rattle.meter_log.specs.declared.Header.TheVariants as H
 use Rattle.meter_log.specs.declared.Refusal.TheVariants as N
-use Rattle.meter_log.specs.declared.Reading.TheVariants as R
 use Rattle.log_number.specs.Number.{number, warm, cold, temperature}
 use Rattle.log_entry.specs.Entry.{in_ranges, reported}
-use Rattle.log_entry.proofs.Laws.{three_yes}
 use Rattle.log_values.specs.Values.{under}
-use Rattle.meter_log.specs.Reading.{reading_of, line_ok, read_columns, read_line}
+use Rattle.meter_log.specs.Reading.{Header, reading_of, line_ok, read_columns, read_line}
 
 -- ---- numbers
 digit_most : (b : ℕ) (s : List ℕ) → all is_digit (b ∷ s) ≡ true → (b - 48 ≤ 9) × (all is_digit s ≡ true)
@@ -161,15 +158,22 @@ record Reads (x y z : ℕ) (e : Operation) : Type 0 where
   pub high : z ≤ 255
   pub whole : e ≡ reported x y z
 
-reads : (x y z : ℕ) (e : Operation) → reading_of x y z ≡ R.Made e → Reads x y z e
+-- what the test of the ranges says
+three_yes : (a b c : ℕ) → in_ranges a b c ≡ true → (a ≤ 15) × (b ≤ 255) × (c ≤ 255)
+three_yes a b c e =
+    let f = and_yes (leb a 15 && leb b 255) (leb c 255) e in
+    let g = and_yes (leb a 15) (leb b 255) f.0 in
+    (leb-true _ _ g.0, leb-true _ _ g.1, leb-true _ _ f.1)
+
+reads : (x y z : ℕ) (e : Operation) → reading_of x y z ≡ Ok e → Reads x y z e
 unfolding reading_of
 reads x y z e q =
     either (in_ranges x y z)
     (λ t.
     let b = three_yes x y z t in
-    let g : R.Made (reported x y z) ≡ R.Made e = rw t at q in
+    let g : Ok (reported x y z) ≡ Ok e = rw t at q in
     record { low = b.0; middle = b.1; high = b.2; whole = cc g })
-    (λ t. absurd (let g : R.Refused N.Number ≡ R.Made e = rw t at q in let w : ◌≡◌ {A = ℕ} 0 1 = cc in omega arith))
+    (λ t. absurd (let g : Err N.Number ≡ Ok e = rw t at q in let w : ◌≡◌ {A = ℕ} 0 1 = cc in omega arith))
 
 allowed_in : (x y z : ℕ) → x ≤ 15 → temp_ok z ≡ true → allowed 5 x y z ≡ true
 unfolding allowed last_byte_ok
@@ -177,12 +181,12 @@ allowed_in x y z h t = rw (le-leb x 15 h, t)
 
 columns_made :
     (c : Columns) (l : List ℕ) (e : Operation) →
-    read_columns c l ≡ R.Made e →
+    read_columns c l ≡ Ok e →
     Reads (number (under l c.cell)) (number (under l c.flow)) (temperature (under l c.temp)) e
 unfolding read_columns
 columns_made c l e q =
     either (line_ok c l) (λ t. reads _ _ _ e (rw t at q))
-    (λ t. absurd (let g : R.Refused N.Fields ≡ R.Made e = rw t at q in let w : ◌≡◌ {A = ℕ} 0 1 = cc in omega arith))
+    (λ t. absurd (let g : Err N.Fields ≡ Ok e = rw t at q in let w : ◌≡◌ {A = ℕ} 0 1 = cc in omega arith))
 
 -- an entry of kind 5, its count not given, that making allows
 pub record Entry (e : Operation) : Type 0 where
@@ -197,7 +201,7 @@ pub record Found (c : Columns) (l : List ℕ) (e : Operation) : Type 0 where
   pub the_flow : e.amount ≡ number (under l c.flow)
   pub the_temp : Degrees (under l c.temp) (signed e.last)
 
-module _ (c : Columns) (l : List ℕ) (e : Operation) (q : read_columns c l ≡ R.Made e) where
+module _ (c : Columns) (l : List ℕ) (e : Operation) (q : read_columns c l ≡ Ok e) where
   columns_entry : Entry e
   columns_entry =
       let r = columns_made c l e q in
@@ -205,13 +209,13 @@ module _ (c : Columns) (l : List ℕ) (e : Operation) (q : read_columns c l ≡ 
       rw r.whole (record { no_count = refl; five = refl; a_byte = r.middle; passes = allowed_in _ _ _ r.low t })
 
 -- "Each later line becomes one kind 5 entry, its count left to making": one that making allows
-pub line-entry : (h : Header) (l : List ℕ) (e : Operation) → read_line h l ≡ R.Made e → Entry e
+pub line-entry : (h : Header) (l : List ℕ) (e : Operation) → read_line h l ≡ Ok e → Entry e
 unfolding read_line
-line-entry H.Refused l e q = absurd (let w : ◌≡◌ {A = ℕ} 0 1 = cc in omega arith)
-line-entry (H.Named c) l e q = columns_entry c l e q
+line-entry None l e q = absurd (let w : ◌≡◌ {A = ℕ} 0 1 = cc in omega arith)
+line-entry (Some c) l e q = columns_entry c l e q
 
 -- "with the cell, flow and temperature found under those names"
-pub line_found : (c : Columns) (l : List ℕ) (e : Operation) → read_line (H.Named c) l ≡ R.Made e → Found c l e
+pub line_found : (c : Columns) (l : List ℕ) (e : Operation) → read_line (Some c) l ≡ Ok e → Found c l e
 unfolding read_line
 line_found c l e q =
     let r = columns_made c l e q in

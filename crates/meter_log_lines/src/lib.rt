@@ -26,7 +26,7 @@ pub fn tell_lines(log: Log, number: u64, text: &[u8], out: &mut [u8]) -> TextTol
     let mut at = 0;
     let mut filled = 0;
     while 64 <= room - filled {
-        let end = text::find(text, at, 10);
+        let end = text::find(text, at, b'\n');
         if end == text.len() {
             return TextTold {
                 log: g,

@@ -9,7 +9,7 @@ use borrow.Author.Tests.{ltb-true}
 use Rattle.text.specs.Text.{cut}
 use Rattle.text.proofs.Laws.{either}
 use Rattle.log_lines.specs.Lines.{piece_lines, lines}
-use Rattle.meter_log.specs.declared.Header.{Header}
+use Rattle.meter_log.specs.Reading.{Header}
 use Rattle.meter_log_told.specs.declared.Log.{Log}
 use Rattle.meter_log_told.specs.declared.Log.TheVariants as L
 use Rattle.meter_log_told.specs.declared.LineTold.TheVariants as T

@@ -7,8 +7,7 @@ use borrow.Author.Tests.{not-true}
 use Rattle.slices.proofs.Laws.{and_yes}
 use Rattle.text.specs.Text.{cut}
 use Rattle.log_lines.specs.Lines.{less_return, piece_lines}
-use Rattle.meter_log.specs.declared.Header.{Header}
-use Rattle.meter_log.specs.Reading.{header_of, read_line}
+use Rattle.meter_log.specs.Reading.{Header, header_of, read_line}
 use Rattle.meter_log.specs.Log.{read_all}
 use Rattle.meter_log_told.specs.declared.Log.{Log}
 use Rattle.meter_log_told.specs.declared.Log.TheVariants as L

@@ -2,8 +2,7 @@
 use Rattle.std.specs.Prelude.{ℕ, ◌+◌, List, [], ◌∷◌, ◌++◌, Bool, true, not, ◌&&◌}
 use Rattle.text.specs.Text.{cut}
 use Rattle.log_lines.specs.Lines.{lines}
-use Rattle.meter_log.specs.declared.Reading.{Reading}
-use Rattle.meter_log.specs.Reading.{header_of}
+use Rattle.meter_log.specs.Reading.{Reading, header_of}
 use Rattle.meter_log.specs.Log.{read_all}
 use Rattle.meter_log_told.specs.Told.{tell_header, tell_reading, is_long}
 use Rattle.meter_log_put.specs.Text.{told_bytes}
