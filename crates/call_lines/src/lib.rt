@@ -5,6 +5,13 @@ ghost use Rattle.std.specs.Prelude.{◌+◌, ◌≤◌, ◌≡◌, length, take,
 
 use std::io::{Print, Read};
 
+// Room for the text. An array of this size written in place is unfolded by the check where it stands, which is too much: a contract of its own.
+pub fn text_buffer() -> [u8; 1048576]
+    ensures { 1048576 ≡ length result }
+{
+    [0; 1048576]
+}
+
 // Reads until `buf` is full, the input ends or a read fails, and answers how many bytes stand at the front of `buf` then.
 pub fn read_full<R: Read>(reader: &mut R, buf: &mut [u8]) -> usize
     ensures { result ≤ length buf.new }

@@ -139,8 +139,7 @@ fn room_word(letter: u8) -> usize {
 }
 
 // The call with the first bytes lent, as many as the line says.
-fn step_in(r: Replica, line: &[u8], letter: u8, out: &mut [u8; 128]) -> Stepped
-{
+fn step_in(r: Replica, line: &[u8], letter: u8, out: &mut [u8; 128]) -> Stepped {
     let room = call_lines::number_at(line, room_word(letter), 128) as usize;
     step(r, line, letter, &mut out[..room])
 }
@@ -176,10 +175,14 @@ fn one<R: Print>(rt: &R, states: &mut [[u8; SIZE]; 4], line: &[u8]) {
 
 fn main(rt: HostRuntime) {
     let mut states = [[0u8; SIZE]; 4];
-    let mut text = [0u8; 1048576];
+    let mut text = call_lines::text_buffer();
     let n = call_lines::read_full(&mut rt.stdin(), &mut text);
     for line in text[..n].split_inclusive(|b| *b == b'\n') {
-        one(&rt, &mut states, line.strip_suffix(b"\n".as_slice()).unwrap_or(line));
+        one(
+            &rt,
+            &mut states,
+            line.strip_suffix(b"\n".as_slice()).unwrap_or(line),
+        );
         call_lines::print_end(&rt);
     }
 }

@@ -130,7 +130,7 @@ fn one<R: Print>(rt: &R, states: &mut [[u8; SIZE]; 2], line: &[u8]) {
 
 fn main(rt: HostRuntime) {
     let mut states = [[0u8; SIZE]; 2];
-    let mut text = [0u8; 1048576];
+    let mut text = call_lines::text_buffer();
     let n = call_lines::read_full(&mut rt.stdin(), &mut text);
     for line in text[..n].split_inclusive(|b| *b == b'\n') {
         one(&rt, &mut states, line.strip_suffix(b"\n".as_slice()).unwrap_or(line));
