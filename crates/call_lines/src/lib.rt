@@ -1,18 +1,11 @@
 // What the programs that run listed calls share: the words of a line, a state in bytes, and printing.
 #![tactic(auto)]
 
-ghost use Rattle.std.specs.Prelude.{◌+◌, ◌≤◌, ◌≡◌, length};
+ghost use Rattle.std.specs.Prelude.{◌+◌, ◌≤◌, ◌≡◌, length, take, drop};
 
 use std::io::{Print, Read};
 
-// 65,536 zeros.
-pub fn large_buffer() -> [u8; 65536]
-    ensures { 65536 ≡ length result }
-{
-    [0; 65536]
-}
-
-// Room for the text.
+// Room for the text. An array of this size written in place is unfolded by the check where it stands, which is too much: a contract of its own.
 pub fn text_buffer() -> [u8; 1048576]
     ensures { 1048576 ≡ length result }
 {
@@ -25,15 +18,9 @@ pub fn read_full<R: Read>(reader: &mut R, buf: &mut [u8]) -> usize
 {
     let mut done = 0;
     while done < buf.len() {
-        let got = reader.read(&mut buf[done..]);
-        match got {
-            Ok(n) => {
-                if n == 0 {
-                    return done;
-                }
-                done += n;
-            }
-            Err(_) => return done,
+        match reader.read(&mut buf[done..]) {
+            Ok(0) | Err(_) => return done,
+            Ok(n) => done += n,
         }
     }
     done
@@ -41,36 +28,9 @@ pub fn read_full<R: Read>(reader: &mut R, buf: &mut [u8]) -> usize
 
 // Words of a line
 
-// The place of the first `x` from `at` on, the length where there is none.
-pub fn end(s: &[u8], at: usize, x: u8) -> usize
-    requires { at ≤ length s.now }
-    ensures { (at ≤ result) × (result ≤ length s.now) }
-{
-    text::find(s, at, x)
-}
-
-// The place after the first `k` spaces, the length where there are fewer.
-fn word_start(line: &[u8], k: usize) -> usize
-    ensures { result ≤ length line.now }
-{
-    let mut at = 0;
-    let mut i = 0;
-    while i < k {
-        let e = end(line, at, 32);
-        if line.len() <= e {
-            return line.len();
-        }
-        at = e + 1;
-        i += 1;
-    }
-    at
-}
-
 // The word after `k` spaces, empty where there are fewer.
 pub fn nth_word(line: &[u8], k: usize) -> &[u8] {
-    let a = word_start(line, k);
-    let e = end(line, a, 32);
-    &line[a..e]
+    line.split(|b| *b == b' ').nth(k).unwrap_or(&[])
 }
 
 // The number that the word after `k` spaces spells, held at `cap`; `cap` for what is no number.
@@ -93,65 +53,29 @@ pub fn bytes_at(line: &[u8], k: usize, out: &mut [u8]) -> usize
 
 // A line's first letter, 0 where it is empty.
 pub fn first_letter(line: &[u8]) -> u8 {
-    if line.len() == 0 {
-        return 0;
-    }
-    line[0]
+    line.first().copied().unwrap_or(0)
 }
 
 // States in bytes, one after the other
 
-// The sixteen bytes from `at` on: the values of the cells, or their temperatures.
-pub fn sixteen(s: &[u8], at: usize) -> [u8; 16]
-    requires { at + 16 ≤ length s.now }
+// The N bytes from `at` on.
+pub fn part<const N: usize>(s: &[u8], at: usize) -> [u8; N]
+    requires { at + N ≤ length s.now }
+    ensures { result ≡ take N (drop at s.now) }
 {
-    let mut t = [0u8; 16];
-    let e = at + 16;
-    slices::copy_to(&mut t, 0, &s[at..e]);
+    let mut t = [0; N];
+    t.copy_from_slice(&s[at..at + N]);
     t
 }
 
-// Copies a part to its place, if it fits there.
-pub fn copy_part(state: &mut [u8], at: usize, part: &[u8]) {
-    if at <= state.len() {
-        if part.len() <= state.len() - at {
-            slices::copy_to(state, at, part);
-        }
-    }
-}
-
-pub fn copy_byte(state: &mut [u8], at: usize, n: u8) {
-    let bytes = [n];
-    copy_part(state, at, &bytes);
-}
-
-pub fn copy_word(state: &mut [u8], at: usize, n: u32) {
-    let bytes = slices::word_bytes(n);
-    copy_part(state, at, &bytes);
-}
-
-// Copies `n` bytes from one place to another; the two are the same or apart.
-fn copy_within(s: &mut [u8], from: usize, to: usize, n: usize)
-    requires { (from + n ≤ length s.old) × (to + n ≤ length s.old) }
+// Puts the bytes of the line's word 4 into a state, from the byte on that its word 3 names, and prints its digest.
+pub fn change<R: Print>(rt: &R, state: &mut [u8], line: &[u8])
+    requires { length state.old ≤ 65535 }
 {
-    let mut i = 0;
-    while i < n {
-        s[to + i] = s[from + i];
-        i += 1;
-    }
-}
-
-// Puts a copy of the state at `from` to `to`, with the bytes of the line's word 4 from the byte on that its word 3 names.
-pub fn change<R: Print>(rt: &R, states: &mut [u8], line: &[u8], from: usize, to: usize, size: u32)
-    requires { (from + size ≤ length states.old) × (to + size ≤ length states.old) × (size ≤ 65535) }
-{
-    let n = size as usize;
-    let e = to + n;
-    copy_within(states, from, to, n);
-    let at = to + number_at(line, 3, size) as usize;
-    bytes_at(line, 4, &mut states[at..e]);
+    let at = number_at(line, 3, state.len() as u32) as usize;
+    bytes_at(line, 4, &mut state[at..]);
     print(rt, b"changed");
-    print_digest(rt, &states[to..e]);
+    print_digest(rt, state);
 }
 
 // Printing

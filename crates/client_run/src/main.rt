@@ -2,16 +2,19 @@
 // form of both. Nothing is claimed but that it is safe and ends; what it prints is held to the file stdout.
 #![tactic(auto)]
 
-ghost use Rattle.std.specs.Prelude.{◌+◌, ◌≤◌, ◌≡◌, length};
+ghost use Rattle.std.specs.Prelude.{◌+◌, ◌≤◌, ◌<◌};
 
 use operation::{Cells, Operation, Response};
 use replica::{Event, Outcome, Replica, Stepped};
 
+// The bytes of a replica: each field in its order, numbers in four bytes.
+const SIZE: usize = 1398;
+
 // The place of a replica: that of the last one for a number above 3.
 fn slot(line: &[u8], k: usize) -> usize
-    ensures { result + 1398 ≤ 5592 }
+    ensures { result < 4 }
 {
-    call_lines::number_at(line, k, 3) as usize * 1398
+    call_lines::number_at(line, k, 3) as usize
 }
 
 // Printing
@@ -58,98 +61,45 @@ fn print_outcome<R: Print>(rt: &R, outcome: Outcome) {
     }
 }
 
-// A replica in 1,398 bytes: each field in its order, numbers in four bytes
+// A replica in bytes
 
-fn keys_of(state: &[u8]) -> [u8; message::KEYS_LENGTH]
-    requires { 1398 ≤ length state.now }
+// The number in the four bytes from `at` on.
+fn number_of(state: &[u8; SIZE], at: usize) -> u32
+    requires { at + 4 ≤ 1398 }
 {
-    let mut t = [0u8; message::KEYS_LENGTH];
-    slices::copy_to(&mut t, 0, &state[1..257]);
-    t
+    u32::from_be_bytes(call_lines::part(state, at))
 }
 
-fn chain_of(state: &[u8]) -> [u8; replica::CHAIN_LENGTH]
-    requires { 1398 ≤ length state.now }
-{
-    let mut t = [0u8; replica::CHAIN_LENGTH];
-    slices::copy_to(&mut t, 0, &state[277..1333]);
-    t
-}
-
-fn cells_of(state: &[u8]) -> Cells
-    requires { 1398 ≤ length state.now }
-{
-    let values = call_lines::sixteen(state, 1365);
-    let temps = call_lines::sixteen(state, 1381);
-    Cells { values, temps }
-}
-
-fn replica_of(state: &[u8]) -> Replica
-    requires { 1398 ≤ length state.now }
-{
-    let keys = keys_of(state);
-    let current = operation::read_op(state, 261);
-    let chain = chain_of(state);
-    let statuses = slices::part(state, 1333);
-    let cells = cells_of(state);
+fn replica_of(state: &[u8; SIZE]) -> Replica {
     Replica {
         number: state[0],
-        keys,
-        count: slices::word_at(state, 257),
-        current,
-        confirmed: slices::word_at(state, 269),
-        held: slices::word_at(state, 273),
-        chain,
-        statuses,
-        cells,
+        keys: call_lines::part(state, 1),
+        count: number_of(state, 257),
+        current: operation::read_op(state, 261),
+        confirmed: number_of(state, 269),
+        held: number_of(state, 273),
+        chain: call_lines::part(state, 277),
+        statuses: call_lines::part(state, 1333),
+        cells: Cells {
+            values: call_lines::part(state, 1365),
+            temps: call_lines::part(state, 1381),
+        },
         halt: state[1397],
     }
 }
 
-fn store_numbers(state: &mut [u8], r: Replica) {
-    call_lines::copy_byte(state, 0, r.number);
-    call_lines::copy_word(state, 257, r.count);
-    call_lines::copy_word(state, 269, r.confirmed);
-    call_lines::copy_word(state, 273, r.held);
-    call_lines::copy_byte(state, 1397, r.halt);
-}
-
-fn store_current(state: &mut [u8], current: Operation) {
-    let bytes = operation::op_bytes(current);
-    call_lines::copy_part(state, 261, &bytes);
-}
-
-fn store_keys(state: &mut [u8], keys: &[u8; message::KEYS_LENGTH]) {
-    call_lines::copy_part(state, 1, keys);
-}
-
-fn store_chain(state: &mut [u8], chain: &[u8; replica::CHAIN_LENGTH]) {
-    call_lines::copy_part(state, 277, chain);
-}
-
-fn store_statuses(state: &mut [u8], statuses: &[u8; operation::MAX_PENDING]) {
-    call_lines::copy_part(state, 1333, statuses);
-}
-
-// The values of the cells or their temperatures.
-fn store_sixteen(state: &mut [u8], at: usize, bytes: &[u8; operation::CELL_COUNT]) {
-    call_lines::copy_part(state, at, bytes);
-}
-
-fn store_cells(state: &mut [u8], cells: Cells) {
-    store_sixteen(state, 1365, &cells.values);
-    store_sixteen(state, 1381, &cells.temps);
-}
-
-fn store(state: &mut [u8], r: Replica) {
-    let current = r.current;
-    let cells = r.cells;
-    store_numbers(state, r);
-    store_current(state, current);
-    store_keys(state, &r.keys);
-    store_chain(state, &r.chain);
-    store_statuses(state, &r.statuses);
-    store_cells(state, cells);
+fn store(state: &mut [u8; SIZE], r: Replica) {
+    state[0] = r.number;
+    state[1..257].copy_from_slice(&r.keys);
+    state[257..261].copy_from_slice(&r.count.to_be_bytes());
+    state[261..269].copy_from_slice(&operation::op_bytes(r.current));
+    state[269..273].copy_from_slice(&r.confirmed.to_be_bytes());
+    state[273..277].copy_from_slice(&r.held.to_be_bytes());
+    state[277..1333].copy_from_slice(&r.chain);
+    state[1333..1365].copy_from_slice(&r.statuses);
+    state[1365..1381].copy_from_slice(&r.cells.values);
+    state[1381..1397].copy_from_slice(&r.cells.temps);
+    state[1397] = r.halt;
 }
 
 // Calls
@@ -177,9 +127,10 @@ fn receive(r: Replica, line: &[u8], out: &mut [u8]) -> Stepped {
 
 fn step(r: Replica, line: &[u8], letter: u8, out: &mut [u8]) -> Stepped {
     if letter == b'i' {
-        return invoke(r, line, out);
+        invoke(r, line, out)
+    } else {
+        receive(r, line, out)
     }
-    receive(r, line, out)
 }
 
 // The place of the word that says how many bytes are lent.
@@ -188,85 +139,50 @@ fn room_word(letter: u8) -> usize {
 }
 
 // The call with the first bytes lent, as many as the line says.
-fn step_in(r: Replica, line: &[u8], letter: u8, out: &mut [u8]) -> Stepped
-    requires { 128 ≤ length out.old }
-{
+fn step_in(r: Replica, line: &[u8], letter: u8, out: &mut [u8; 128]) -> Stepped {
     let room = call_lines::number_at(line, room_word(letter), 128) as usize;
     step(r, line, letter, &mut out[..room])
 }
 
-fn buffer() -> [u8; 128]
-    ensures { 128 ≡ length result }
-{
-    [0xaa; 128]
-}
-
 // Prints the outcome, keeps the replica, and prints its digest.
-fn keep_state<R: Print>(rt: &R, states: &mut [u8], to: usize, stepped: Stepped)
-    requires { to + 1398 ≤ length states.old }
-{
-    let replica = stepped.replica;
-    let outcome = stepped.outcome;
-    print_outcome(rt, outcome);
-    let e = to + 1398;
-    store(&mut states[to..e], replica);
-    call_lines::print_digest(rt, &states[to..e]);
+fn keep_state<R: Print>(rt: &R, state: &mut [u8; SIZE], stepped: Stepped) {
+    print_outcome(rt, stepped.outcome);
+    store(state, stepped.replica);
+    call_lines::print_digest(rt, state);
 }
 
-fn call<R: Print>(rt: &R, states: &mut [u8], line: &[u8], letter: u8)
-    requires { 5592 ≤ length states.old }
-{
-    let from = slot(line, 1);
-    let to = slot(line, 2);
-    let e = from + 1398;
-    let r = replica_of(&states[from..e]);
-    let mut out = buffer();
+fn call<R: Print>(rt: &R, states: &mut [[u8; SIZE]; 4], line: &[u8], letter: u8) {
+    let r = replica_of(&states[slot(line, 1)]);
+    let mut out = [0xaa; 128];
     let stepped = step_in(r, line, letter, &mut out);
-    keep_state(rt, states, to, stepped);
+    keep_state(rt, &mut states[slot(line, 2)], stepped);
     call_lines::print_digest(rt, &out);
 }
 
 // A line's first letter says what it asks.
-fn one<R: Print>(rt: &R, states: &mut [u8], line: &[u8])
-    requires { 5592 ≤ length states.old }
-{
-    let letter = call_lines::first_letter(line);
-    if letter == b'#' {
-        call_lines::print(rt, line);
-        return;
+fn one<R: Print>(rt: &R, states: &mut [[u8; SIZE]; 4], line: &[u8]) {
+    match call_lines::first_letter(line) {
+        b'#' => call_lines::print(rt, line),
+        b'o' => keep_state(rt, &mut states[slot(line, 1)], open(line)),
+        b'c' => {
+            let to = slot(line, 2);
+            states[to] = states[slot(line, 1)];
+            call_lines::change(rt, &mut states[to], line);
+        }
+        letter => call(rt, states, line, letter),
     }
-    if letter == b'o' {
-        keep_state(rt, states, slot(line, 1), open(line));
-        return;
-    }
-    if letter == b'c' {
-        call_lines::change(rt, states, line, slot(line, 1), slot(line, 2), 1398);
-        return;
-    }
-    call(rt, states, line, letter);
-}
-
-fn lines<R: Print>(rt: &R, states: &mut [u8], text: &[u8])
-    requires { 5592 ≤ length states.old }
-{
-    let mut at = 0;
-    while at < text.len() {
-        let e = call_lines::end(text, at, 10);
-        one(rt, states, &text[at..e]);
-        call_lines::print_end(rt);
-        at = e + 1;
-    }
-}
-
-fn zeros() -> [u8; 5592]
-    ensures { 5592 ≡ length result }
-{
-    [0; 5592]
 }
 
 fn main(rt: HostRuntime) {
-    let mut states = zeros();
+    let mut states = [[0u8; SIZE]; 4];
     let mut text = call_lines::text_buffer();
     let n = call_lines::read_full(&mut rt.stdin(), &mut text);
-    lines(&rt, &mut states, &text[..n]);
+    for line in text[..n].split_inclusive(|b| *b == b'\n') {
+        one(
+            &rt,
+            &mut states,
+            line.strip_suffix(b"\n".as_slice()).unwrap_or(line),
+        );
+        call_lines::print_end(&rt);
+    }
 }

@@ -1,5 +1,5 @@
 -- What a read may leave. Which bytes it brings, is said where the reader's bytes are known.
-use Rattle.std.specs.Prelude.{ℕ, ◌+◌, ◌-◌, ◌^◌, ◌≤◌, ◌<◌, ◌≡◌, Bool, true, false, List, length, take, drop, ◌↔◌, IsSome}
+use Rattle.std.specs.Prelude.{ℕ, ◌+◌, ◌-◌, ◌^◌, ◌≤◌, ◌<◌, ◌≡◌, Bool, true, false, List, length, take, drop}
 use Rattle.std.specs.declared.option.Option.{Option}
 use Rattle.std.specs.Io.KnownBytes.{Consumes, IsAtEnd}
 use Rattle.input.specs.declared.Brought.{Brought}
@@ -10,7 +10,7 @@ use Rattle.input.specs.declared.Input.{Input}
 unfoldable pub goes_on : Brought → Bool
 goes_on B.Some = true
 goes_on B.Ended = false
-goes_on B.Failed = false
+goes_on (B.Failed e) = false
 goes_on B.Limit = false
 
 -- a read into a buffer s that held `held` bytes, after `total` bytes were read before
@@ -26,10 +26,6 @@ pub record Reads (s s' : List ℕ) (held total : ℕ) (r : Input) : Type 0 where
   pub below : goes_on r.brought ≡ true → r.total < 2 ^ 64 - 1
   -- "no more may be read" is said where nearly 2^64 bytes were read
   pub limit : r.brought ≡ B.Limit → 2 ^ 64 - 1 ≤ total + length s
-
--- the cause is told of a failure, and of nothing else
-abbrev pub Caused : Input → Type 0
-Caused r = IsSome r.cause ↔ (r.brought ≡ B.Failed)
 
 -- of a reader whose bytes are known: those that came are the next of them, and where the input ended none is left
 abbrev pub Gives : Option (List ℕ) → Option (List ℕ) → ℕ → List ℕ → Input → Type 0

@@ -2,39 +2,35 @@
 #![tactic(auto)]
 
 ghost use Rattle.std.specs.Prelude.{◌<◌, ◌≡◌, length};
-ghost use Rattle.input.specs.Reads.{goes_on, Reads, Caused, Gives};
+ghost use Rattle.input.specs.Reads.{goes_on, Reads, Gives};
 
 use std::io;
 use std::io::Read;
 
-// What a read brought: some bytes; the end of the input; a failure; or nothing, since no more may be read.
+// What a read brought: some bytes; the end of the input; a failure, with its cause; or nothing, since no more may be read.
 #[derive(Clone, Copy)]
 pub enum Brought {
     Some,
     Ended,
-    Failed,
+    Failed(io::Error),
     Limit,
 }
 
-// After a read: how many bytes there are now, how many were read in all, what the read brought, and the cause where it failed.
+// After a read: how many bytes there are now, how many were read in all, and what the read brought.
 #[derive(Clone, Copy)]
 pub struct Input {
     pub count: usize,
     pub total: u64,
     pub brought: Brought,
-    pub cause: Option<io::Error>,
 }
 
-// Whether there may be more to read.
-#[tactic(auto, unfolding(crate::specs::Reads::goes_on))]
-pub fn goes_on(b: Brought) -> bool
-    ensures { result ≡ goes_on b }
-{
-    match b {
-        Brought::Some => true,
-        Brought::Ended => false,
-        Brought::Failed => false,
-        Brought::Limit => false,
+impl Brought {
+    // Whether there may be more to read.
+    #[tactic(auto, unfolding(crate::specs::Reads::goes_on))]
+    pub fn goes_on(self) -> bool
+        ensures { result ≡ goes_on self }
+    {
+        matches!(self, Brought::Some)
     }
 }
 
@@ -43,41 +39,30 @@ pub fn goes_on(b: Brought) -> bool
 pub fn read<R: Read>(reader: &mut R, buf: &mut [u8], held: usize, total: u64) -> Input
     requires { held < length buf.old }
     ensures reads { Reads buf.old buf.new held total result }
-    ensures cause { Caused result }
     ensures bytes { Gives (R.remaining reader.old) (R.remaining reader.new) held buf.new result }
 {
-    if 18446744073709551615 - total <= buf.len() as u64 {
+    if u64::MAX - total <= buf.len() as u64 {
         return Input {
             count: held,
             total,
             brought: Brought::Limit,
-            cause: None,
         };
     }
-    let got = reader.read(&mut buf[held..]);
-    let n = match got {
-        Ok(n) => n,
-        Err(e) => {
-            return Input {
-                count: held,
-                total,
-                brought: Brought::Failed,
-                cause: Some(e),
-            };
-        }
-    };
-    if n == 0 {
-        return Input {
+    match reader.read(&mut buf[held..]) {
+        Ok(0) => Input {
             count: held,
             total,
             brought: Brought::Ended,
-            cause: None,
-        };
-    }
-    Input {
-        count: held + n,
-        total: total + n as u64,
-        brought: Brought::Some,
-        cause: None,
+        },
+        Ok(n) => Input {
+            count: held + n,
+            total: total + n as u64,
+            brought: Brought::Some,
+        },
+        Err(e) => Input {
+            count: held,
+            total,
+            brought: Brought::Failed(e),
+        },
     }
 }

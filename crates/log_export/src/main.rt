@@ -2,56 +2,9 @@
 // printed for a log is the contract of `meter_log_io::run`.
 #![tactic(auto)]
 
-use std::env::Env;
-use std::fs::Files;
 use std::io;
 use std::io::Write;
 use tool::Asks;
-
-// Reads the log that `name` names. Whether the next one is read.
-fn log_in<R: Files + Input + Print, E: Write>(rt: &R, errors: &mut E, name: &[u8]) -> bool {
-    match tool::open(rt, errors, name) {
-        None => true,
-        Some(opened) => {
-            let mut source = opened;
-            let done = meter_log_io::run(&mut source, &mut io::writer(rt));
-            let why = done.why;
-            let next = tool::tell(errors, name, why, done.cause);
-            tool::close(source);
-            next
-        }
-    }
-}
-
-// The same of argument `i`.
-fn log_at<R: Env + Files + Input + Print, E: Write>(rt: &R, errors: &mut E, i: usize) -> bool {
-    let mut name = [0u8; 4096];
-    match rt.arg(i, &mut name) {
-        Ok(n) => log_in(rt, errors, &name[..n]),
-        Err(e) => {
-            tool::fail(
-                errors,
-                b"log_export: a file's name",
-                tool::argument_error(e),
-            );
-            true
-        }
-    }
-}
-
-// All files in order, until a write fails; standard input where none is named.
-fn logs<R: Env + Files + Input + Print, E: Write>(rt: &R, errors: &mut E) {
-    let count = tool::arg_count(rt);
-    if count < 2 {
-        log_in(rt, errors, b"-");
-        return;
-    }
-    for i in 1..count {
-        if !log_at(rt, errors, i) {
-            return;
-        }
-    }
-}
 
 fn help<R: Print, E: Write>(rt: &R, errors: &mut E) {
     tool::help(
@@ -86,6 +39,13 @@ fn main(rt: HostRuntime) {
     match tool::asked(&rt) {
         Asks::Help => help(&rt, &mut errors),
         Asks::Unknown(i) => tool::refuse(&rt, &mut errors, b"log_export", i),
-        Asks::Files => logs(&rt, &mut errors),
+        Asks::Files => {
+            tool::read_each(
+                &rt,
+                &mut errors,
+                b"log_export: a file's name",
+                |source| meter_log_io::run(source, &mut io::writer(&rt)),
+            );
+        }
     }
 }

@@ -1,6 +1,7 @@
 -- The input in parts: what was told and sent of all that came, however it was cut into reads. Assumes nothing.
 use Rattle.std.specs.declared.option.Option.{Option}
-use Rattle.std.specs.declared.io.Error.{Error}
+use Rattle.std.specs.Option.{unwrap_or}
+use Rattle.std.specs.Prelude.{Some, IsNone, is_none}
 use Prim.Native.Nat.{ℕ, ◌+◌, ◌-◌, ◌<◌, ◌≤◌, ◌^◌}
 use mathlib.Core.Path.{◌≡◌, refl, sym, ap, ◌∙◌}
 use mathlib.Core.List.{List, [], ◌∷◌, ◌++◌, append_assoc}
@@ -16,14 +17,13 @@ use Rattle.input.specs.declared.Input.{Input}
 use Rattle.input.specs.Reads.{goes_on, Reads}
 use Rattle.meter_log_lines.specs.Lines.{run_whole}
 use Rattle.meter_log_parts.specs.declared.State.{State}
-use Rattle.meter_log_parts.specs.declared.Kept.{Kept}
-use Rattle.meter_log_parts.specs.Whole.{between, Stands, all, over, First, Past, AllTold, Came}
+use Rattle.meter_log_parts.specs.Whole.{between, held_of, Stands, all, over, First, Past, AllTold, Came}
 use Rattle.meter_log_io.specs.Ran.{Reached, Stopped}
 use Rattle.meter_log_io.proofs.Sizes.{past-few}
 use Rattle.meter_log_parts.proofs.Laws.{sends_none, runs, sent_both}
 
 -- more bytes came, by the contract of `more`: all is told of them together
-module _ {w₀ : State} {t : List ℕ} {w : State} {p : List ℕ} (i : Past w₀ t p w) {o : Bool} {s x : List ℕ} {w' : State} {k : Kept} {buf' : List ℕ} (c : Came w o s x w' k buf') (h : Stands o s p) where
+module _ {w₀ : State} {t : List ℕ} {w : State} {p : List ℕ} (i : Past w₀ t p w) {o : Bool} {s x : List ℕ} {w' : State} {k : Option ℕ} {buf' : List ℕ} (c : Came w o s x w' k buf') (h : Stands o s p) where
   abbrev part : AllTold w (p ++ x) w' k buf'
   part = c.whole p (last_piece 10 t i.told p i.pieces) h
 
@@ -46,25 +46,25 @@ past_none : (w : State) → First w → Past w [] [] w
 unfolding cut run_whole
 past_none w f = record { told = []; printed = []; pieces = refl; run = refl; sent = sends_none w.sent (omega (arith, f.sent)) }
 
-pub reached_none : (w : State) (buf : List ℕ) → First w → Reached w (record { over = false; held = 0 }) buf 0
+pub reached_none : (w : State) (buf : List ℕ) → First w → Reached w (Some 0) buf 0
 reached_none w buf f =
     record { input = []; counted = refl; left = []; start = w; first = f; past = past_none w f; stands = all {p = []} refl (omega arith) }
 
 -- and after one more, the bytes from `held` to n of what it left in the buffer came
 pub reached_more :
-    (buf₁ : List ℕ) (n : ℕ) {w : State} {k : Kept} {buf : List ℕ} {total total' : ℕ} {w' : State} {k' : Kept} {buf' : List ℕ} →
+    (buf₁ : List ℕ) (n : ℕ) {w : State} {k : Option ℕ} {buf : List ℕ} {total total' : ℕ} {w' : State} {k' : Option ℕ} {buf' : List ℕ} →
     Reached w k buf total →
-    take k.held buf₁ ≡ take k.held buf →
-    k.held ≤ n →
+    take (held_of k) buf₁ ≡ take (held_of k) buf →
+    held_of k ≤ n →
     n ≤ length buf₁ →
-    total' + k.held ≡ total + n →
-    Came w k.over (take k.held buf₁) (between buf₁ k.held n) w' k' buf' →
+    total' + held_of k ≡ total + n →
+    Came w (is_none k) (take (held_of k) buf₁) (between buf₁ (held_of k) n) w' k' buf' →
     Reached w' k' buf' total'
 reached_more buf₁ n {w} {k} {buf} {total} {total'} r e l m g c =
-    let x = between buf₁ k.held n in
-    let h : Stands k.over (take k.held buf₁) r.left = rw e r.stands in
+    let x = between buf₁ (held_of k) n in
+    let h : Stands (is_none k) (take (held_of k) buf₁) r.left = rw e r.stands in
     let a = part r.past c h in
-    let f : length x ≡ n - k.held = length-take-le (n - k.held) (drop k.held buf₁) (omega (arith, length-drop k.held buf₁)) in
+    let f : length x ≡ n - held_of k = length-take-le (n - held_of k) (drop (held_of k) buf₁) (omega (arith, length-drop (held_of k) buf₁)) in
     record {
       input = r.input ++ x;
       counted = omega (arith, length-append r.input x, f, r.counted, g, l);
@@ -80,10 +80,14 @@ stands-few : {o : Bool} {s p : List ℕ} → Stands o s p → length s ≤ lengt
 stands-few (all e h) = omega (arith, ap length e)
 stands-few (over e h) = omega (arith, ap length e)
 
-pub reached-few : {w : State} {k : Kept} {buf : List ℕ} {total : ℕ} → Reached w k buf total → k.held < length buf → w.number + k.held ≤ total
+pub reached-few : {w : State} {k : Option ℕ} {buf : List ℕ} {total : ℕ} → Reached w k buf total → held_of k < length buf → w.number + held_of k ≤ total
 reached-few {w} {k} {buf} r h =
     omega
-    (arith, past-few r.past, r.counted, r.first.number, stands-few r.stands, length-take-le k.held buf (omega (arith, h)))
+    (arith, past-few r.past, r.counted, r.first.number, stands-few r.stands, length-take-le (held_of k) buf (omega (arith, h)))
+
+-- a read behind the bytes held
+pub read_held : {buf buf₁ : List ℕ} {n total : ℕ} {g : Input} (k : Option ℕ) → n ≡ unwrap_or k 0 → Reads buf buf₁ n total g → Reads buf buf₁ (held_of k) total g
+read_held k e r = rw e at r
 
 -- ---- a turn of the loop, by the contracts of what it calls
 -- it goes on only after a read that brought bytes and writes that succeeded
@@ -100,30 +104,30 @@ off a o true e h g = absurd (true≢false (sym h))
 off a o false e h g = and_no a o g (sym e)
 
 pub reached_next :
-    {w : State} {k : Kept} {buf buf₁ : List ℕ} {total : ℕ} {g : Input} {w' : State} {k' : Kept} {buf' : List ℕ} →
+    {w : State} {k : Option ℕ} {buf buf₁ : List ℕ} {total : ℕ} {g : Input} {w' : State} {k' : Option ℕ} {buf' : List ℕ} →
     Reached w k buf total →
     length buf₁ ≡ length buf →
-    Reads buf buf₁ k.held total g →
-    Came w k.over (take k.held buf₁) (between buf₁ k.held g.count) w' k' buf' →
+    Reads buf buf₁ (held_of k) total g →
+    Came w (is_none k) (take (held_of k) buf₁) (between buf₁ (held_of k) g.count) w' k' buf' →
     Reached w' k' buf' g.total
 reached_next {buf₁ = buf₁} {g = g} r l i c = reached_more buf₁ g.count r i.kept i.behind (omega (arith, i.within, l)) i.counted c
 
 pub stopped :
-    {w : State} {k : Kept} {buf buf₁ : List ℕ} {total : ℕ} {g : Input} {w' : State} {k' : Kept} {buf' : List ℕ} {r : Bool} {o : Option Error} →
+    {w : State} {k : Option ℕ} {buf buf₁ : List ℕ} {total : ℕ} {g : Input} {w' : State} {k' : Option ℕ} {buf' : List ℕ} {r : Bool} →
     Reached w k buf total →
     total + 1 < 2 ^ 64 →
     length buf ≡ 65536 →
     length buf₁ ≡ length buf →
-    Reads buf buf₁ k.held total g →
-    Came w k.over (take k.held buf₁) (between buf₁ k.held g.count) w' k' buf' →
-    r ≡ (goes_on g.brought && w'.sent.ok) →
+    Reads buf buf₁ (held_of k) total g →
+    Came w (is_none k) (take (held_of k) buf₁) (between buf₁ (held_of k) g.count) w' k' buf' →
+    r ≡ (goes_on g.brought && is_none w'.sent.failed) →
     not r ≡ true →
-    Stopped (record { state = w'; kept = k'; total = g.total; brought = g.brought; cause = o }) buf'
+    Stopped (record { state = w'; kept = k'; total = g.total; brought = g.brought }) buf'
 stopped {g = g} {w' = w'} q m z l i c e h =
     record {
       reached = reached_next q l i c;
       room = c.room;
       below = either (goes_on g.brought) (λ o. omega (arith, i.below o)) (λ o. omega (arith, i.none o, i.counted, m));
-      last = off (goes_on g.brought) w'.sent.ok _ e h;
+      last = λ f. off (goes_on g.brought) (is_none w'.sent.failed) _ e h (ap not f);
       limit = λ f. omega (arith, i.limit f, z, i.counted, i.behind);
     }

@@ -5,6 +5,7 @@ use Rattle.std.specs.declared.io.Error.{Error}
 use Prim.Native.Nat.{ℕ, ◌+◌, ◌%◌, ◌^◌}
 use mathlib.Core.Path.{◌≡◌, refl, sym, ap, subst, ◌∙◌}
 use mathlib.Core.List.{List, [], ◌∷◌, ◌++◌, append-nil}
+use Rattle.std.specs.Prelude.{Some, None, IsNone, is_some, is_none}
 use mathlib.Core.Bool.{Bool, true, false, true≢false}
 use mathlib.Core.Logic.{inl, inr}
 use native.Mathlib.Omega.{arith}
@@ -23,42 +24,42 @@ use Rattle.meter_log_io.specs.declared.InputTold.{InputTold}
 use Rattle.tool.specs.declared.Why.{Why}
 use Rattle.tool.specs.declared.Why.TheVariants as W
 use Rattle.tool.specs.Tool.{why_of}
-use Rattle.meter_log_parts.specs.Whole.{run_at, First, Past, LastTold, Finished}
+use Rattle.meter_log_parts.specs.Whole.{held_of, run_at, First, Past, LastTold, Finished}
 use Rattle.meter_log_io.specs.Ran.{Stopped, Ran}
 
 -- ---- why it ended, by what the last read brought and whether all writes succeeded
 other : {A : Type 0} → ◌≡◌ {A = ℕ} 0 1 → A
 other e = absurd (omega (arith, e))
 
-why_ended : (b : Brought) (o : Bool) → why_of b o ≡ W.Ended → o ≡ true
+why_ended : (b : Brought) (o : Option Error) → why_of b o ≡ W.Ended → IsNone o
 unfolding why_of
-why_ended b false e = other (cc e)
-why_ended b true e = refl
+why_ended b (Some c) e = other (cc e)
+why_ended b None e = refl
 
 -- a read that brought bytes is never the last
-is_ended : (b : Brought) (o : Bool) → why_of b o ≡ W.Ended → ((b ≡ B.Ended → ⊥) → goes_on b ≡ false) → b ≡ B.Ended
+is_ended : (b : Brought) (o : Option Error) → why_of b o ≡ W.Ended → ((b ≡ B.Ended → ⊥) → goes_on b ≡ false) → b ≡ B.Ended
 unfolding why_of goes_on
-is_ended b false e g = other (cc e)
-is_ended B.Ended true e g = refl
-is_ended B.Failed true e g = other (cc e)
-is_ended B.Limit true e g = other (cc e)
-is_ended B.Some true e g = absurd (true≢false (g (λ f. other (cc f))))
+is_ended b (Some c) e g = other (cc e)
+is_ended B.Ended None e g = refl
+is_ended (B.Failed c) None e g = other (cc e)
+is_ended B.Limit None e g = other (cc e)
+is_ended B.Some None e g = absurd (true≢false (g (λ f. other (cc f))))
 
-why_failed : (b : Brought) (o : Bool) → why_of b o ≡ W.ReadFailed → (b ≡ B.Ended → ⊥) × (o ≡ true)
+why_failed : (b : Brought) (o : Option Error) {d : Error} → why_of b o ≡ W.ReadFailed d → (b ≡ B.Ended → ⊥) × IsNone o
 unfolding why_of
-why_failed b false e = other (cc e)
-why_failed B.Ended true e = other (cc e)
-why_failed B.Failed true e = ((λ f. other (cc f)), refl)
-why_failed B.Limit true e = other (cc e)
-why_failed B.Some true e = other (cc e)
+why_failed b (Some c) e = other (cc e)
+why_failed B.Ended None e = other (cc e)
+why_failed (B.Failed c) None e = ((λ f. other (cc f)), refl)
+why_failed B.Limit None e = other (cc e)
+why_failed B.Some None e = other (cc e)
 
-is_limit : (b : Brought) (o : Bool) → why_of b o ≡ W.Limit → (b ≡ B.Limit) × (o ≡ true)
+is_limit : (b : Brought) (o : Option Error) → why_of b o ≡ W.Limit → (b ≡ B.Limit) × IsNone o
 unfolding why_of
-is_limit b false e = other (cc e)
-is_limit B.Ended true e = other (cc e)
-is_limit B.Failed true e = other (cc e)
-is_limit B.Limit true e = (refl, refl)
-is_limit B.Some true e = other (cc e)
+is_limit b (Some c) e = other (cc e)
+is_limit B.Ended None e = other (cc e)
+is_limit (B.Failed c) None e = other (cc e)
+is_limit B.Limit None e = (refl, refl)
+is_limit B.Some None e = other (cc e)
 
 limit_not_ended : (b : Brought) → b ≡ B.Limit → b ≡ B.Ended → ⊥
 limit_not_ended b e f = let z : ◌≡◌ {A = ℕ} 0 1 = cc in omega arith
@@ -102,13 +103,13 @@ module _ {w₀ : State} {t u : List ℕ} {w : State} (f : First w₀) (y : Past 
       ∙ sym (ap (λ (x : Run). x.printed) (ap (run_input at_start) y.pieces ∙ all_last at_start y.told u))
 
   -- and what was sent
-  counted : {n : ℕ} {r : Sent} → Sends w₀.sent n r → r.ok ≡ true → r.bytes ≡ n % 2 ^ 64
+  counted : {n : ℕ} {r : Sent} → Sends w₀.sent n r → IsNone r.failed → r.bytes ≡ n % 2 ^ 64
   counted {n} {r} s o = let e : w₀.sent.bytes + n ≡ n = omega (arith, f.sent) in s.counted o ∙ ap (λ (x : ℕ). x % 2 ^ 64) e
 
-  pub sent-whole : w.sent.ok ≡ true → w.sent.bytes ≡ length (printed_whole t) % 2 ^ 64
+  pub sent-whole : IsNone w.sent.failed → w.sent.bytes ≡ length (printed_whole t) % 2 ^ 64
   sent-whole o = counted y.sent o ∙ ap (λ (x : List ℕ). length x % 2 ^ 64) whole-printed
 
-  pub sent_all : {r : Sent} → Sends w.sent (length (run_last (run_at w []) u).printed) r → r.ok ≡ true → r.bytes ≡ length (printed_of t) % 2 ^ 64
+  pub sent_all : {r : Sent} → Sends w.sent (length (run_last (run_at w []) u).printed) r → IsNone r.failed → r.bytes ≡ length (printed_of t) % 2 ^ 64
   sent_all s o =
       let l = (run_last (run_at w []) u).printed in
       counted (sends-join y.sent s) o
@@ -118,18 +119,18 @@ module _ {w₀ : State} {t u : List ℕ} {w : State} (f : First w₀) (y : Past 
 -- ---- the program's function
 module _
     {q : InputTold} {buf : List ℕ} {sent : Sent} {why : Why} (s : Stopped q buf)
-    (f : Finished q.brought q.state q.kept.over (take q.kept.held buf) sent) (e : why ≡ why_of q.brought sent.ok) where
-  whole-only : (q.brought ≡ B.Ended → ⊥) × (sent.ok ≡ true) → sent.bytes ≡ length (printed_whole s.reached.input) % 2 ^ 64
+    (f : Finished q.brought q.state (is_none q.kept) (take (held_of q.kept) buf) sent) (e : why ≡ why_of q.brought sent.failed) where
+  whole-only : (q.brought ≡ B.Ended → ⊥) × IsNone sent.failed → sent.bytes ≡ length (printed_whole s.reached.input) % 2 ^ 64
   whole-only n =
       let r = s.reached in
       let i : sent ≡ q.state.sent = f.not_yet n.0 in
-      ap (λ (x : Sent). x.bytes) i ∙ sent-whole r.first r.past (sym (ap (λ (x : Sent). x.ok) i) ∙ n.1)
+      ap (λ (x : Sent). x.bytes) i ∙ sent-whole r.first r.past (sym (ap (λ (x : Sent). is_some x.failed) i) ∙ n.1)
 
   -- while no write failed, only a read that brought nothing was the last
-  no_more : sent.ok ≡ true → (q.brought ≡ B.Ended → ⊥) → goes_on q.brought ≡ false
-  no_more o n = s.last (sym (ap (λ (x : Sent). x.ok) (f.not_yet n)) ∙ o)
+  no_more : IsNone sent.failed → (q.brought ≡ B.Ended → ⊥) → goes_on q.brought ≡ false
+  no_more o n = s.last (sym (ap (λ (x : Sent). is_some x.failed) (f.not_yet n)) ∙ o)
 
-  pub ran : {o : Option Error} → Ran (record { total = q.total; sent = sent.bytes; why = why; cause = o })
+  pub ran : Ran (record { total = q.total; sent = sent.bytes; why = why })
   ran =
       let r = s.reached in
       let b = q.brought in
@@ -138,14 +139,14 @@ module _
         total = r.counted;
         ended =
             λ h.
-            let o = why_ended b sent.ok (sym e ∙ h) in
-            let i = is_ended b sent.ok (sym e ∙ h) (no_more o) in
+            let o = why_ended b sent.failed (sym e ∙ h) in
+            let i = is_ended b sent.failed (sym e ∙ h) (no_more o) in
             sent_all r.first r.past ((f.ended i).last r.left r.stands) o;
         stopped =
             λ h.
             elim h [
-              | inl g ↦ whole-only (why_failed b sent.ok (sym e ∙ g))
-              | inr g ↦ let i = is_limit b sent.ok (sym e ∙ g) in whole-only (limit_not_ended b i.0, i.1)
+              | inl g ↦ whole-only (why_failed b sent.failed (sym e ∙ g.1))
+              | inr g ↦ let i = is_limit b sent.failed (sym e ∙ g) in whole-only (limit_not_ended b i.0, i.1)
             ];
-        limit = λ h. omega (arith, s.limit (is_limit b sent.ok (sym e ∙ h)).0, r.counted);
+        limit = λ h. omega (arith, s.limit (is_limit b sent.failed (sym e ∙ h)).0, r.counted);
       }

@@ -4,45 +4,44 @@
 // how many bytes were read and sent, and why it ended. Definitions: specs/Whole.antt, specs/Ran.antt.
 #![tactic(auto)]
 
-ghost use Rattle.std.specs.Prelude.{◌≡◌, ◌&&◌, ◌+◌, ◌≤◌, ◌<◌, ◌^◌, length, take};
+ghost use Rattle.std.specs.Prelude.{◌≡◌, ◌&&◌, is_none, ◌+◌, ◌≤◌, ◌<◌, ◌^◌, length, take};
 ghost use Rattle.input.specs.Reads.{goes_on};
 ghost use Rattle.meter_log_told.specs.Told.{line_limit};
-ghost use Rattle.meter_log_parts.specs.Whole.{Finished, First};
+ghost use Rattle.meter_log_parts.specs.Whole.{held_of, Finished, First};
 ghost use Rattle.meter_log_io.specs.Ran.{Stopped, Ran};
 
 use input::Brought;
-use meter_log_parts::{Kept, State};
+use meter_log_parts::State;
 use meter_log_told::Log;
 use output::Sent;
-use std::io;
 use std::io::{Read, Write};
-use tool::Why;
+use tool::Done;
 
 // Where the input ended its last line is told; where it may go on, what is held may be a part of a line, and is not.
 fn finish<W: Write>(
     writer: &mut W,
     brought: Brought,
     state: State,
-    kept: Kept,
+    kept: Option<usize>,
     buf: &[u8],
     out: &mut [u8],
 ) -> Sent
-    requires { (kept.held ≤ length buf.now) × (64 ≤ length out.old) × (state.number + 1 < 2 ^ 64) }
-    ensures { Finished brought state kept.over (take kept.held buf.now) result }
+    requires { (held_of kept ≤ length buf.now) × (64 ≤ length out.old) × (state.number + 1 < 2 ^ 64) }
+    ensures { Finished brought state (is_none kept) (take (held_of kept) buf.now) result }
 {
     match brought {
         Brought::Ended => meter_log_parts::tell_end(writer, state, kept, buf, out),
         Brought::Some => state.sent,
-        Brought::Failed => state.sent,
+        Brought::Failed(_) => state.sent,
         Brought::Limit => state.sent,
     }
 }
 
 // Whether to read on.
-fn again(brought: Brought, ok: bool) -> bool
-    ensures { result ≡ goes_on brought && ok }
+fn again(brought: Brought, sent: Sent) -> bool
+    ensures { result ≡ goes_on brought && is_none sent.failed }
 {
-    input::goes_on(brought) & ok
+    brought.goes_on() && sent.failed.is_none()
 }
 
 // Before the first line.
@@ -56,14 +55,13 @@ fn first() -> State
     }
 }
 
-// After the last read: the state, what is held, how many bytes were read, what the last read brought, and the cause where it failed.
+// After the last read: the state, what is held, how many bytes were read, and what the last read brought.
 #[derive(Clone, Copy)]
 struct InputTold {
     state: State,
-    kept: Kept,
+    kept: Option<usize>,
     total: u64,
     brought: Brought,
-    cause: Option<io::Error>,
 }
 
 // Reads until the input ends or a read or a write fails, and tells the whole lines.
@@ -77,64 +75,36 @@ fn tell_input<R: Read, W: Write>(
     ensures { Stopped result buf.new }
 {
     let mut state = first();
-    let mut kept = Kept {
-        over: false,
-        held: 0,
-    };
+    let mut kept = Some(0);
     let mut total: u64 = 0;
     loop {
-        let got = input::read(reader, buf, kept.held, total);
+        let got = input::read(reader, buf, kept.unwrap_or(0), total);
         let q = meter_log_parts::more(writer, state, kept, got.count, buf, out);
-        let s = q.state;
-        state = s;
-        let k = q.kept;
-        kept = k;
+        state = q.state;
+        kept = q.kept;
         total = got.total;
-        let brought = got.brought;
-        if !again(brought, s.sent.ok) {
+        if !again(got.brought, state.sent) {
             return InputTold {
                 state,
                 kept,
                 total,
-                brought,
-                cause: got.cause,
+                brought: got.brought,
             };
         }
     }
-}
-
-// How many bytes were read and sent, the latter modulo 2^64, why it ended, and the cause where it failed.
-#[derive(Clone, Copy)]
-pub struct Done {
-    pub total: u64,
-    pub sent: u64,
-    pub why: Why,
-    pub cause: Option<io::Error>,
-}
-
-// 65,536 zeros.
-fn large_buffer() -> [u8; 65536]
-    ensures { 65536 ≡ length result }
-{
-    [0; 65536]
 }
 
 // Tells the log that `reader` gives.
 pub fn run<R: Read, W: Write>(reader: &mut R, writer: &mut W) -> Done
     ensures { Ran result }
 {
-    let mut buf = large_buffer();
-    let mut out = large_buffer();
+    let mut buf = [0u8; 65536];
+    let mut out = [0u8; 65536];
     let q = tell_input(reader, writer, &mut buf, &mut out);
-    let state = q.state;
-    let kept = q.kept;
-    let brought = q.brought;
-    let sent = finish(writer, brought, state, kept, &buf, &mut out);
-    let why = tool::ended_by(brought, sent.ok);
+    let sent = finish(writer, q.brought, q.state, q.kept, &buf, &mut out);
     Done {
         total: q.total,
         sent: sent.bytes,
-        why,
-        cause: tool::cause_of(why, q.cause, sent.cause),
+        why: tool::ended_by(q.brought, sent.failed),
     }
 }

@@ -28,8 +28,9 @@ use Rattle.meter_log_lines.specs.Lines.{Run, run_whole, Tells}
 use Rattle.meter_log_lines.specs.Printed.{run_last}
 use Rattle.meter_log_lines.proofs.Laws.{run_then}
 use Rattle.meter_log_parts.specs.declared.State.{State}
-use Rattle.meter_log_parts.specs.declared.Kept.{Kept}
-use Rattle.meter_log_parts.specs.Whole.{between, Stands, all, over, run_at, Past, OneMore, AllTold, Came, LastTold, Finished}
+use Rattle.std.specs.declared.option.Option.{Option}
+use Rattle.std.specs.Prelude.{Some, None, is_none}
+use Rattle.meter_log_parts.specs.Whole.{between, held_of, Stands, all, over, run_at, Past, OneMore, AllTold, Came, LastTold, Finished}
 
 -- nothing more was sent
 pub sends_none : (s : Sent) → s.bytes < 2 ^ 64 → Sends s 0 s
@@ -80,16 +81,14 @@ none_left h a z = elim a.ends [ inl q ↦ q | inr q ↦ absurd (omega (arith, q,
 pub passing_more :
     {w₀ : State} {s : List ℕ} {start n : ℕ} {w : State} {at used : ℕ} {out out' : List ℕ} {r : TextTold} {e' : Sent} →
     64 ≤ length out →
-    length out' ≡ length out →
     Passing w₀ s start n w at used →
     Tells w.log w.number (between s at n) out r out' →
-    Sends w.sent r.filled e' →
+    Sends w.sent (length (take r.filled out')) e' →
     Passing w₀ s start n (record { log = r.log; number = w.number + r.count; sent = e' }) (at + r.used) r.used
-passing_more {w₀} {s} {start} {n} {w} {at} {out' = out'} {r = r} {e' = e'} h l k a y =
+passing_more {w₀} {s} {start} {n} {w} {at} {out' = out'} {r = r} {e' = e'} h k a y =
     let e : drop r.used (between s at n) ≡ between s (at + r.used) n = part_drop s at r.used n in
     let m : length (between s at n) ≤ n - at = omega (arith, length-take (n - at) (drop at s)) in
     let p = take r.filled out' in
-    let f : length p ≡ r.filled = length-take-le r.filled out' (omega (arith, a.room, l)) in
     record {
       told = k.told ++ a.told;
       printed = k.printed ++ p;
@@ -101,7 +100,7 @@ passing_more {w₀} {s} {start} {n} {w} {at} {out' = out'} {r = r} {e' = e'} h l
           ∙ ap (λ (x : List (List ℕ)). k.told ++ x) (a.pieces ∙ ap (λ (x : List ℕ). a.told ++ cut 10 x) e)
           ∙ sym (append_assoc k.told a.told (cut 10 (between s (at + r.used) n)));
       run = runs w₀ w (record { log = r.log; number = w.number + r.count; sent = e' }) k.printed p k.told a.told k.run a.run;
-      sent = sent_both k.printed p k.sent (rw f y);
+      sent = sent_both k.printed p k.sent y;
       ends = λ z. rw e at (none_left h a z);
     }
 
@@ -127,9 +126,9 @@ module _ (s : List ℕ) (at n : ℕ) (g : at ≤ n) (h : n ≤ length s) (room :
   keeps_all s' f e = all {p = between s at n} f (omega (arith, width, room, e))
 
 pub whole :
-    {w : State} {t u : List ℕ} {w' : State} {k : Kept} {buf' : List ℕ} →
+    {w : State} {t u : List ℕ} {w' : State} {k : Option ℕ} {buf' : List ℕ} →
     Past w t u w' →
-    Stands k.over (take k.held buf') u →
+    Stands (is_none k) (take (held_of k) buf') u →
     AllTold w t w' k buf'
 whole {u = u} p a = record { rest = u; past = p; kept = a }
 
@@ -165,7 +164,7 @@ module _ (s : List ℕ) (n e : ℕ) (m : n ≤ length s) (q : e ≡ 0 + place_of
   over_within = omega (arith, q, wide, place-most 10 x)
 
   -- no line feed: all of it is of that line
-  pub over_all : (w : State) (buf : List ℕ) → w.sent.bytes < 2 ^ 64 → e ≡ n → 0 < length buf → Came w true [] x w (record { over = true; held = 0 }) buf
+  pub over_all : (w : State) (buf : List ℕ) → w.sent.bytes < 2 ^ 64 → e ≡ n → 0 < length buf → Came w true [] x w None buf
   unfolding run_whole
   over_all w buf f h b =
       record {
@@ -184,20 +183,18 @@ module _ (s : List ℕ) (n e : ℕ) (m : n ≤ length s) (q : e ≡ 0 + place_of
               kept = over {p = p ++ x} refl (omega (arith, over_long st, length-append p x));
             };
         room = b;
-        none = λ z. refl;
       }
 
   -- a line feed at e: it is told there, and what comes after it is told as after its end
   pub over_to :
-      (w : State) {w₁ w' : State} {d : LogStep} {out : List ℕ} {k : Kept} {buf : List ℕ} →
+      (w : State) {w₁ w' : State} {d : LogStep} {out : List ℕ} {k : Option ℕ} {buf : List ℕ} →
       (e ≡ n → ⊥) →
       d ≡ tell_long w.log →
       OneMore w d w₁ out →
       AllTold w₁ (between s (e + 1) n) w' k buf →
-      k.held < length buf →
-      (k.over ≡ true → k.held ≡ 0) →
+      held_of k < length buf →
       Came w true [] x w' k buf
-  over_to w {w₁} {w'} {d} {out} {k} h l' o' a b₁ b₂ =
+  over_to w {w₁} {w'} {d} {out} {k} h l' o' a b₁ =
       let l : OneMore w (tell_long w.log) w₁ out = rw l' at o' in
       let f : place_of 10 x < length x = omega (arith, q, h, wide, over_within) in
       let i : suc (place_of 10 x) ≡ e + 1 = omega (arith, q) in
@@ -226,19 +223,18 @@ module _ (s : List ℕ) (n e : ℕ) (m : n ≤ length s) (q : e ≡ 0 + place_of
               kept = a.kept;
             };
         room = b₁;
-        none = b₂;
       }
 
 -- ---- what came, by what was kept
 pub stands_all : {s p : List ℕ} → Stands false s p → s ≡ p
 stands_all (all e h) = e
 
-module _ {w : State} (o : Bool) (s : List ℕ) (held n : ℕ) {w' : State} {k : Kept} {buf : List ℕ} where
+module _ {w : State} (o : Bool) (s : List ℕ) (held n : ℕ) {w' : State} {k : Option ℕ} {buf : List ℕ} where
   pub came_over : o ≡ true → held ≡ 0 → Came w true [] (between s 0 n) w' k buf → Came w o (take held s) (between s held n) w' k buf
   came_over e h c = rw (e, h) c
 
-  pub came_held : o ≡ false → held ≤ n → n ≤ length s → AllTold w (between s 0 n) w' k buf → k.held < length buf → (k.over ≡ true → k.held ≡ 0) → Came w o (take held s) (between s held n) w' k buf
-  came_held e h m a b₁ b₂ =
+  pub came_held : o ≡ false → held ≤ n → n ≤ length s → AllTold w (between s 0 n) w' k buf → held_of k < length buf → Came w o (take held s) (between s held n) w' k buf
+  came_held e h m a b₁ =
       let z : held - 0 ≡ held = omega arith in
       let j : take held s ++ between s held n ≡ between s 0 n = ap (λ (i : ℕ). take i s ++ between s held n) (sym z) ∙ part_join s 0 held n (omega arith) h m in
       record {
@@ -247,7 +243,6 @@ module _ {w : State} (o : Bool) (s : List ℕ) (held n : ℕ) {w' : State} {k : 
             let f : p ++ between s held n ≡ between s 0 n = ap (λ (y : List ℕ). y ++ between s held n) (sym (stands_all (rw e at st))) ∙ j in
             rw f a;
         room = b₁;
-        none = b₂;
       }
 
 -- ---- one line, told from the front of `out` on
@@ -258,12 +253,14 @@ pub one_more :
     (w : State) (d : LogStep) (out out' : List ℕ) (k : ℕ) (e' : Sent) →
     64 ≤ length out →
     (k ≡ 0 + length (told_bytes (w.number + 1) d.told)) × (out' ≡ put out 0 (told_bytes (w.number + 1) d.told)) × (k ≤ 0 + 64) →
-    Sends w.sent k e' →
+    Sends w.sent (length (take k out')) e' →
     OneMore w d (record { log = d.log; number = w.number + 1; sent = e' }) out'
 one_more w d out out' k e' h b y =
     let t = told_bytes (w.number + 1) d.told in
     let g : k ≡ length t = omega (arith, b.0) in
-    record { log = refl; number = refl; written = put_front out out' t k b.0 b.1 (omega (arith, b.2, h)); sent = rw g at y }
+    let f : take (length t) out' ≡ t = put_front out out' t k b.0 b.1 (omega (arith, b.2, h)) in
+    let l : length (take k out') ≡ length t = ap (λ (i : ℕ). length (take i out')) g ∙ ap length f in
+    record { log = refl; number = refl; written = f; sent = rw l at y }
 
 -- ---- the last line
 last_some : (w : State) (p : List ℕ) → 0 < length p → (run_last (run_at w []) p).printed ≡ told_bytes (w.number + 1) (tell_last w.log p).told

@@ -1,5 +1,6 @@
 -- What the log program holds of a line that is not yet whole, and what it has told and sent of the bytes that came.
-use Rattle.std.specs.Prelude.{ℕ, ◌+◌, ◌-◌, ◌<◌, ◌≤◌, ◌≡◌, List, [], ◌∷◌, ◌++◌, Bool, true, false, length, take, drop}
+use Rattle.std.specs.Prelude.{ℕ, ◌+◌, ◌-◌, ◌<◌, ◌≤◌, ◌≡◌, List, [], ◌∷◌, ◌++◌, Bool, true, false, is_none, unwrap_or, length, take, drop}
+use Rattle.std.specs.declared.option.Option.{Option}
 use Rattle.text.specs.Text.{cut}
 use Rattle.input.specs.declared.Brought.{Brought}
 use Rattle.input.specs.declared.Brought.TheVariants as B
@@ -12,11 +13,14 @@ use Rattle.meter_log_put.specs.Text.{told_bytes}
 use Rattle.meter_log_lines.specs.Lines.{Run, run_whole}
 use Rattle.meter_log_lines.specs.Printed.{run_last}
 use Rattle.meter_log_parts.specs.declared.State.{State}
-use Rattle.meter_log_parts.specs.declared.Kept.{Kept}
 
 -- the bytes of a buffer from `from` to n
 abbrev pub between : List ℕ → ℕ → ℕ → List ℕ
 between s from n = take (n - from) (drop from s)
+
+-- how many bytes are held: none of a line that is over-long
+abbrev pub held_of : Option ℕ → ℕ
+held_of k = unwrap_or k 0
 
 -- what is held stands for the bytes p of a line under way: it is these, or they are over-long and nothing is held
 pub data Stands : Bool → List ℕ → List ℕ → Type 0 where
@@ -50,17 +54,16 @@ pub record OneMore (w : State) (s : LogStep) (w' : State) (out' : List ℕ) : Ty
   pub sent : Sends w.sent (length (told_bytes (w.number + 1) s.told)) w'.sent
 
 -- of bytes t that came after the state w every whole line was told, and the rest is held in the buffer's front
-pub record AllTold (w : State) (t : List ℕ) (w' : State) (k : Kept) (buf' : List ℕ) : Type 0 where
+pub record AllTold (w : State) (t : List ℕ) (w' : State) (k : Option ℕ) (buf' : List ℕ) : Type 0 where
   -- what stands after the last line feed
   pub rest : List ℕ
   pub past : Past w t rest w'
-  pub kept : Stands k.over (take k.held buf') rest
+  pub kept : Stands (is_none k) (take (held_of k) buf') rest
 
 -- bytes x came after those of a line under way, for which the bytes s stand: whichever these are, all is told
-pub record Came (w : State) (over : Bool) (s x : List ℕ) (w' : State) (k : Kept) (buf' : List ℕ) : Type 0 where
+pub record Came (w : State) (over : Bool) (s x : List ℕ) (w' : State) (k : Option ℕ) (buf' : List ℕ) : Type 0 where
   pub whole : (p : List ℕ) → cut 10 p ≡ p ∷ [] → Stands over s p → AllTold w (p ++ x) w' k buf'
-  pub room : k.held < length buf'
-  pub none : k.over ≡ true → k.held ≡ 0
+  pub room : held_of k < length buf'
 
 -- the input ended with a line under way, for which the bytes s stand: whichever these are, what is told of it was sent
 pub record LastTold (w : State) (over : Bool) (s : List ℕ) (r : Sent) : Type 0 where

@@ -3,9 +3,9 @@
 // Inner steps of the log program. Definitions: specs/Whole.antt.
 #![tactic(auto)]
 
-ghost use Rattle.std.specs.Prelude.{◌≡◌, [], true, ◌+◌, ◌≤◌, ◌<◌, ◌^◌, length, take};
+ghost use Rattle.std.specs.Prelude.{◌≡◌, [], true, is_none, ◌+◌, ◌≤◌, ◌<◌, ◌^◌, length, take};
 ghost use Rattle.meter_log_told.specs.Told.{line_limit};
-ghost use Rattle.meter_log_parts.specs.Whole.{between, Stands, Past, OneMore, AllTold, Came, LastTold};
+ghost use Rattle.meter_log_parts.specs.Whole.{between, held_of, Stands, Past, OneMore, AllTold, Came, LastTold};
 
 use meter_log_told::{Log, LogStep};
 use output::Sent;
@@ -26,18 +26,11 @@ struct Passed {
     at: usize,
 }
 
-// What is held of a line that is not yet whole: whether it is over-long, and how many of its bytes stand in the front of the buffer.
-#[derive(Clone, Copy)]
-pub struct Kept {
-    pub over: bool,
-    pub held: usize,
-}
-
-// After some bytes: the state, and what is held.
+// After some bytes: the state, and how many bytes of a line that is not yet whole stand in the front of the buffer; none of an over-long one.
 #[derive(Clone, Copy)]
 pub struct StateAfter {
     pub state: State,
-    pub kept: Kept,
+    pub kept: Option<usize>,
 }
 
 // Tells the whole lines among the bytes from `from` to `n`, and prints what they give. `tell_lines` stops where `out` has little room,
@@ -53,41 +46,34 @@ fn tell_between<W: Write>(
     requires { (from ≤ n) × (n ≤ length buf.now) × (64 ≤ length out.old) × (start.number + n < 2 ^ 64 + from) }
     ensures { Past start (between buf.now from n) (between buf.now result.at n) result.state × (from ≤ result.at) × (result.at ≤ n) }
 {
-    let mut log = start.log;
-    let mut number = start.number;
-    let mut sent = start.sent;
+    let mut state = start;
     let mut at = from;
     let mut used = 1;
     while used != 0 {
-        let q = meter_log_lines::tell_lines(log, number, &buf[at..n], out);
-        let next = q.log;
-        log = next;
-        number += q.count;
+        let q = meter_log_lines::tell_lines(state.log, state.number, &buf[at..n], out);
+        let sent = output::send(writer, &out[..q.filled], state.sent);
+        state = State {
+            log: q.log,
+            number: state.number + q.count,
+            sent,
+        };
         used = q.used;
         at += used;
-        let s = output::send(writer, out, q.filled, sent);
-        sent = s;
     }
-    let state = State { log, number, sent };
     Passed { state, at }
 }
 
 // Holds the bytes from `at` to `n`, which are not yet a line, in the front of the buffer, unless they fill it.
-fn hold_rest(buf: &mut [u8], at: usize, n: usize) -> Kept
+fn hold_rest(buf: &mut [u8], at: usize, n: usize) -> Option<usize>
     requires { (at ≤ n) × (n ≤ length buf.old) × (length buf.old ≡ line_limit + 1) }
-    ensures { Stands result.over (take result.held buf.new) (between buf.old at n)
-        × (result.held < length buf.old)
-        × (result.over ≡ true → result.held ≡ 0) }
+    ensures { Stands (is_none result) (take (held_of result) buf.new) (between buf.old at n) × (held_of result < length buf.old) }
 {
     shifts::to_front(buf, at, n);
     let held = n - at;
     if held == buf.len() {
-        return Kept {
-            over: true,
-            held: 0,
-        };
+        return None;
     }
-    Kept { over: false, held }
+    Some(held)
 }
 
 // The bytes from `from` to `n` came.
@@ -101,13 +87,14 @@ fn tell_from<W: Write>(
 ) -> StateAfter
     requires { (from ≤ n) × (n ≤ length buf.old) × (length buf.old ≡ line_limit + 1) × (64 ≤ length out.old) × (start.number + n < 2 ^ 64 + from) }
     ensures { AllTold start (between buf.old from n) result.state result.kept buf.new
-        × (result.kept.held < length buf.new)
-        × (result.kept.over ≡ true → result.kept.held ≡ 0) }
+        × (held_of result.kept < length buf.new) }
 {
     let q = tell_between(writer, start, from, n, buf, out);
-    let after = q.state;
     let kept = hold_rest(buf, q.at, n);
-    StateAfter { state: after, kept }
+    StateAfter {
+        state: q.state,
+        kept,
+    }
 }
 
 // Prints what is told of the next line.
@@ -115,12 +102,14 @@ fn tell_one<W: Write>(writer: &mut W, state: State, step: LogStep, out: &mut [u8
     requires { (64 ≤ length out.old) × (state.number + 1 < 2 ^ 64) }
     ensures { OneMore state step result out.new }
 {
-    let log = step.log;
-    let told = step.told;
     let number = state.number + 1;
-    let k = meter_log_put::put_told(out, 0, number, told);
-    let sent = output::send(writer, out, k, state.sent);
-    State { log, number, sent }
+    let k = meter_log_put::put_told(out, 0, number, step.told);
+    let sent = output::send(writer, &out[..k], state.sent);
+    State {
+        log: step.log,
+        number,
+        sent,
+    }
 }
 
 // The first `n` bytes of the buffer came in the midst of an over-long line.
@@ -136,16 +125,9 @@ fn tell_over<W: Write>(
 {
     let e = text::find(&buf[0..n], 0, 10);
     if e == n {
-        return StateAfter {
-            state,
-            kept: Kept {
-                over: true,
-                held: 0,
-            },
-        };
+        return StateAfter { state, kept: None };
     }
-    let log = state.log;
-    let step = meter_log_told::tell_long(log);
+    let step = meter_log_told::tell_long(state.log);
     let next = tell_one(writer, state, step, out);
     tell_from(writer, next, e + 1, n, buf, out)
 }
@@ -154,42 +136,40 @@ fn tell_over<W: Write>(
 pub fn more<W: Write>(
     writer: &mut W,
     state: State,
-    kept: Kept,
+    kept: Option<usize>,
     n: usize,
     buf: &mut [u8],
     out: &mut [u8],
 ) -> StateAfter
-    requires { (kept.held ≤ n) × (kept.over ≡ true → kept.held ≡ 0) × (n ≤ length buf.old) × (length buf.old ≡ line_limit + 1) × (64 ≤ length out.old) × (state.number + n < 2 ^ 64) }
-    ensures { Came state kept.over (take kept.held buf.old) (between buf.old kept.held n) result.state result.kept buf.new }
+    requires { (held_of kept ≤ n) × (n ≤ length buf.old) × (length buf.old ≡ line_limit + 1) × (64 ≤ length out.old) × (state.number + n < 2 ^ 64) }
+    ensures { Came state (is_none kept) (take (held_of kept) buf.old) (between buf.old (held_of kept) n) result.state result.kept buf.new }
 {
-    if kept.over {
-        return tell_over(writer, state, n, buf, out);
+    match kept {
+        None => tell_over(writer, state, n, buf, out),
+        Some(_) => tell_from(writer, state, 0, n, buf, out),
     }
-    tell_from(writer, state, 0, n, buf, out)
 }
 
 // Tells the last line, where there is one: bytes that no line feed ends. Answers what was sent then.
 pub fn tell_end<W: Write>(
     writer: &mut W,
     state: State,
-    kept: Kept,
+    kept: Option<usize>,
     buf: &[u8],
     out: &mut [u8],
 ) -> Sent
-    requires { (kept.held ≤ length buf.now) × (64 ≤ length out.old) × (state.number + 1 < 2 ^ 64) }
-    ensures { LastTold state kept.over (take kept.held buf.now) result }
+    requires { (held_of kept ≤ length buf.now) × (64 ≤ length out.old) × (state.number + 1 < 2 ^ 64) }
+    ensures { LastTold state (is_none kept) (take (held_of kept) buf.now) result }
 {
-    let log = state.log;
-    let held = kept.held;
-    if kept.over {
-        let long = meter_log_told::tell_long(log);
-        let p = tell_one(writer, state, long, out);
-        return p.sent;
+    match kept {
+        None => {
+            let long = meter_log_told::tell_long(state.log);
+            tell_one(writer, state, long, out).sent
+        }
+        Some(0) => state.sent,
+        Some(held) => {
+            let last = meter_log_told::tell_last(state.log, &buf[..held]);
+            tell_one(writer, state, last, out).sent
+        }
     }
-    if held == 0 {
-        return state.sent;
-    }
-    let last = meter_log_told::tell_last(log, &buf[0..held]);
-    let q = tell_one(writer, state, last, out);
-    q.sent
 }

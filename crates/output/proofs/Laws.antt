@@ -1,15 +1,8 @@
--- Sends that failed, and sends one after the other. Assumes nothing.
-use Rattle.std.proofs.Common.{◌≡◌, ℕ, ◌+◌, ◌%◌, ◌^◌, true, false, sym, ap, ◌∙◌, true≢false, add_assoc}
+-- Sends one after the other. Assumes nothing.
+use Rattle.std.proofs.Common.{◌≡◌, ℕ, ◌+◌, ◌%◌, ◌^◌, ap, ◌∙◌, add_assoc}
 use native.Mathlib.Nat.{mod-add-mod}
 use Rattle.output.specs.declared.Sent.{Sent}
 use Rattle.output.specs.Sends.{Sends}
-
-pub failed : (s : Sent) (n : ℕ) (r : Sent) → r.ok ≡ false → Sends s n r
-failed s n r e =
-    record {
-      before = λ g. absurd (true≢false (sym g ∙ e));
-      counted = λ g. absurd (true≢false (sym g ∙ e));
-    }
 
 -- bytes sent after others are as many together
 pub sends-join : {s m r : Sent} {a b : ℕ} → Sends s a m → Sends m b r → Sends s (a + b) r

@@ -2,15 +2,18 @@
 // form of both. Nothing is claimed but that it is safe and ends; what it prints is held to the file stdout.
 #![tactic(auto)]
 
-ghost use Rattle.std.specs.Prelude.{◌+◌, ◌≤◌, ◌≡◌, length};
+ghost use Rattle.std.specs.Prelude.{◌+◌, ◌≤◌, ◌<◌};
 
 use server::{Served, Server, ServerEvent, ServerOutcome};
 
+// The bytes of a state: each field in its order, numbers in four bytes.
+const SIZE: usize = 3432;
+
 // The place of a state: that of the second one for a number above 0.
 fn slot(line: &[u8], k: usize) -> usize
-    ensures { result + 3432 ≤ 6864 }
+    ensures { result < 2 }
 {
-    call_lines::number_at(line, k, 1) as usize * 3432
+    call_lines::number_at(line, k, 1) as usize
 }
 
 // Printing
@@ -33,99 +36,52 @@ fn print_outcome<R: Print>(rt: &R, outcome: ServerOutcome) {
     }
 }
 
-// A state in 3,432 bytes: each field in its order, numbers in four bytes
+// A state in bytes
 
-fn counts_of(state: &[u8]) -> [u32; message::CLIENTS as usize]
-    requires { 3432 ≤ length state.now }
+// The number in the four bytes from `at` on.
+fn number_of(state: &[u8; SIZE], at: usize) -> u32
+    requires { at + 4 ≤ 3432 }
 {
-    [
-        slices::word_at(state, 8),
-        slices::word_at(state, 12),
-        slices::word_at(state, 16),
-        slices::word_at(state, 20),
-        slices::word_at(state, 24),
-        slices::word_at(state, 28),
-        slices::word_at(state, 32),
-        slices::word_at(state, 36),
-    ]
+    u32::from_be_bytes(call_lines::part(state, at))
 }
 
-fn items_of(state: &[u8]) -> [u8; server::ITEMS_LENGTH]
-    requires { 3432 ≤ length state.now }
-{
-    let mut t = [0u8; server::ITEMS_LENGTH];
-    slices::copy_to(&mut t, 0, &state[40..1352]);
-    t
+fn counts_of(state: &[u8; SIZE]) -> [u32; message::CLIENTS as usize] {
+    let mut counts = [0; message::CLIENTS as usize];
+    for i in 0..8 {
+        counts[i] = number_of(state, 8 + i * 4);
+    }
+    counts
 }
 
-// The digests or the tags.
-fn parts_of(state: &[u8], at: usize) -> [u8; server::DIGESTS_LENGTH]
-    requires { at + 1024 ≤ length state.now }
-{
-    let mut t = [0u8; server::DIGESTS_LENGTH];
-    let e = at + 1024;
-    slices::copy_to(&mut t, 0, &state[at..e]);
-    t
-}
-
-fn server_of(state: &[u8]) -> Server
-    requires { 3432 ≤ length state.now }
-{
-    let counts = counts_of(state);
-    let items = items_of(state);
-    let statuses = slices::part(state, 1352);
-    let digests = parts_of(state, 1384);
-    let tags = parts_of(state, 2408);
+fn server_of(state: &[u8; SIZE]) -> Server {
     Server {
-        placed: slices::word_at(state, 0),
-        passed: slices::word_at(state, 4),
-        counts,
-        items,
-        statuses,
-        digests,
-        tags,
+        placed: number_of(state, 0),
+        passed: number_of(state, 4),
+        counts: counts_of(state),
+        items: call_lines::part(state, 40),
+        statuses: call_lines::part(state, 1352),
+        digests: call_lines::part(state, 1384),
+        tags: call_lines::part(state, 2408),
     }
 }
 
-fn store_counts(state: &mut [u8], counts: [u32; message::CLIENTS as usize]) {
-    let mut i: usize = 0;
-    while i < 8 {
-        call_lines::copy_word(state, 8 + i * 4, counts[i]);
-        i += 1;
+fn store(state: &mut [u8; SIZE], s: &Server) {
+    state[0..4].copy_from_slice(&s.placed.to_be_bytes());
+    state[4..8].copy_from_slice(&s.passed.to_be_bytes());
+    for i in 0..8 {
+        let at = 8 + i * 4;
+        state[at..at + 4].copy_from_slice(&s.counts[i].to_be_bytes());
     }
-}
-
-fn store_items(state: &mut [u8], items: &[u8; server::ITEMS_LENGTH]) {
-    call_lines::copy_part(state, 40, items);
-}
-
-fn store_statuses(state: &mut [u8], statuses: &[u8; operation::MAX_PENDING]) {
-    call_lines::copy_part(state, 1352, statuses);
-}
-
-// The digests or the tags.
-fn store_parts(state: &mut [u8], at: usize, parts: &[u8; server::DIGESTS_LENGTH]) {
-    call_lines::copy_part(state, at, parts);
-}
-
-fn store(state: &mut [u8], s: Server) {
-    let counts = s.counts;
-    call_lines::copy_word(state, 0, s.placed);
-    call_lines::copy_word(state, 4, s.passed);
-    store_counts(state, counts);
-    store_items(state, &s.items);
-    store_statuses(state, &s.statuses);
-    store_parts(state, 1384, &s.digests);
-    store_parts(state, 2408, &s.tags);
+    state[40..1352].copy_from_slice(&s.items);
+    state[1352..1384].copy_from_slice(&s.statuses);
+    state[1384..2408].copy_from_slice(&s.digests);
+    state[2408..3432].copy_from_slice(&s.tags);
 }
 
 // Keeps the state, and prints its digest.
-fn keep_state<R: Print>(rt: &R, states: &mut [u8], to: usize, s: Server)
-    requires { to + 3432 ≤ length states.old }
-{
-    let e = to + 3432;
-    store(&mut states[to..e], s);
-    call_lines::print_digest(rt, &states[to..e]);
+fn keep_state<R: Print>(rt: &R, state: &mut [u8; SIZE], s: &Server) {
+    store(state, s);
+    call_lines::print_digest(rt, state);
 }
 
 // Calls
@@ -138,83 +94,46 @@ fn receive(s: Server, line: &[u8], out: &mut [u8]) -> Served {
 }
 
 // The call with the first bytes lent, as many as the line says.
-fn receive_in(s: Server, line: &[u8], out: &mut [u8]) -> Served
-    requires { 4096 ≤ length out.old }
+fn receive_in(s: Server, line: &[u8], out: &mut [u8; 4096]) -> Served
 {
     let room = call_lines::number_at(line, 4, 4096) as usize;
     receive(s, line, &mut out[..room])
 }
 
-fn buffer() -> [u8; 4096]
-    ensures { 4096 ≡ length result }
-{
-    [0xaa; 4096]
-}
-
-fn call<R: Print>(rt: &R, states: &mut [u8], line: &[u8])
-    requires { 6864 ≤ length states.old }
-{
-    let from = slot(line, 1);
-    let to = slot(line, 2);
-    let e = from + 3432;
-    let s = server_of(&states[from..e]);
-    let mut out = buffer();
+fn call<R: Print>(rt: &R, states: &mut [[u8; SIZE]; 2], line: &[u8]) {
+    let s = server_of(&states[slot(line, 1)]);
+    let mut out = [0xaa; 4096];
     let served = receive_in(s, line, &mut out);
-    let server = served.server;
-    let outcome = served.outcome;
-    print_outcome(rt, outcome);
-    keep_state(rt, states, to, server);
+    print_outcome(rt, served.outcome);
+    keep_state(rt, &mut states[slot(line, 2)], &served.server);
     call_lines::print_digest(rt, &out);
 }
 
-fn fresh_at<R: Print>(rt: &R, states: &mut [u8], line: &[u8])
-    requires { 6864 ≤ length states.old }
-{
+fn fresh_at<R: Print>(rt: &R, state: &mut [u8; SIZE]) {
     call_lines::print(rt, b"fresh");
-    keep_state(rt, states, slot(line, 1), server::fresh());
+    keep_state(rt, state, &server::fresh());
 }
 
 // A line's first letter says what it asks.
-fn one<R: Print>(rt: &R, states: &mut [u8], line: &[u8])
-    requires { 6864 ≤ length states.old }
-{
-    let letter = call_lines::first_letter(line);
-    if letter == b'#' {
-        call_lines::print(rt, line);
-        return;
+fn one<R: Print>(rt: &R, states: &mut [[u8; SIZE]; 2], line: &[u8]) {
+    match call_lines::first_letter(line) {
+        b'#' => call_lines::print(rt, line),
+        b'f' => fresh_at(rt, &mut states[slot(line, 1)]),
+        b'c' => {
+            let to = slot(line, 2);
+            states[to] = states[slot(line, 1)];
+            call_lines::change(rt, &mut states[to], line);
+        }
+        _ => call(rt, states, line),
     }
-    if letter == b'f' {
-        fresh_at(rt, states, line);
-        return;
-    }
-    if letter == b'c' {
-        call_lines::change(rt, states, line, slot(line, 1), slot(line, 2), 3432);
-        return;
-    }
-    call(rt, states, line);
-}
-
-fn lines<R: Print>(rt: &R, states: &mut [u8], text: &[u8])
-    requires { 6864 ≤ length states.old }
-{
-    let mut at = 0;
-    while at < text.len() {
-        let e = call_lines::end(text, at, 10);
-        one(rt, states, &text[at..e]);
-        call_lines::print_end(rt);
-        at = e + 1;
-    }
-}
-
-fn zeros() -> [u8; 6864]
-    ensures { 6864 ≡ length result }
-{
-    [0; 6864]
 }
 
 fn main(rt: HostRuntime) {
-    let mut states = zeros();
+    let mut states = [[0u8; SIZE]; 2];
     let mut text = call_lines::text_buffer();
     let n = call_lines::read_full(&mut rt.stdin(), &mut text);
-    lines(&rt, &mut states, &text[..n]);
+    for line in text[..n].split_inclusive(|b| *b == b'\n') {
+        one(&rt, &mut states, line.strip_suffix(b"\n".as_slice()).unwrap_or(line));
+        call_lines::print_end(&rt);
+    }
 }

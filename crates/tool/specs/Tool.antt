@@ -1,5 +1,5 @@
 -- What arguments are, what they ask, and how the reading of an input ended.
-use Rattle.std.specs.Prelude.{ℕ, Bool, true, false, cond, List, [], ◌∷◌, eqb, get_or, None}
+use Rattle.std.specs.Prelude.{ℕ, ◌≡◌, Bool, true, false, cond, List, [], ◌∷◌, eqb, get_or, Some, None}
 use Rattle.std.specs.declared.option.Option.{Option}
 use Rattle.std.specs.declared.io.Error.{Error}
 use Rattle.slices.specs.Bytes.{same}
@@ -9,6 +9,7 @@ use Rattle.tool.specs.declared.Argument.{Argument}
 use Rattle.tool.specs.declared.Argument.TheVariants as A
 use Rattle.tool.specs.declared.Asks.{Asks}
 use Rattle.tool.specs.declared.Asks.TheVariants as Q
+use Rattle.tool.specs.declared.Done.{Done}
 use Rattle.tool.specs.declared.Why.{Why}
 use Rattle.tool.specs.declared.Why.TheVariants as W
 
@@ -33,23 +34,20 @@ first_of A.Input i later = later
 first_of A.File i later = later
 
 -- a write that failed comes before what the last read brought
-unfoldable pub why_of : Brought → Bool → Why
-why_of b false = W.WriteFailed
-why_of B.Some true = W.Ended
-why_of B.Ended true = W.Ended
-why_of B.Failed true = W.ReadFailed
-why_of B.Limit true = W.Limit
+unfoldable pub why_of : Brought → Option Error → Why
+why_of b (Some e) = W.WriteFailed e
+why_of B.Some None = W.Ended
+why_of B.Ended None = W.Ended
+why_of (B.Failed e) None = W.ReadFailed e
+why_of B.Limit None = W.Limit
 
 -- after a write that failed no further input is read
 unfoldable pub next_read : Why → Bool
 next_read W.Ended = true
-next_read W.ReadFailed = true
-next_read W.WriteFailed = false
+next_read (W.ReadFailed e) = true
+next_read (W.WriteFailed e) = false
 next_read W.Limit = true
 
--- a read's cause where a read failed, a write's where a write did
-unfoldable pub cause_of : Why → Option Error → Option Error → Option Error
-cause_of W.Ended read written = None
-cause_of W.ReadFailed read written = read
-cause_of W.WriteFailed read written = written
-cause_of W.Limit read written = None
+-- of runs with these outcomes, on a source that they read from, one ended by a write that failed
+abbrev pub WriteFailedIn : {S : Type 0} → (S → Done → S → Type 0) → Type 0
+WriteFailedIn {S} post = (s : S) × (d : Done) × (s' : S) × post s d s' × (next_read d.why ≡ false)

@@ -2,8 +2,8 @@
 // Definitions: specs/Tool.antt. What the operating system is asked and told stays by reading: std says what a call does.
 #![tactic(auto)]
 
-ghost use Rattle.std.specs.Prelude.{◌≡◌, ◌≤◌, length};
-ghost use Rattle.tool.specs.Tool.{kind_of, unknown_at, first_of, why_of, next_read, cause_of};
+ghost use Rattle.std.specs.Prelude.{◌≡◌, false};
+ghost use Rattle.tool.specs.Tool.{kind_of, unknown_at, first_of, why_of, next_read, WriteFailedIn};
 
 use input::Brought;
 use std::env::{Env, FillError};
@@ -20,20 +20,16 @@ pub enum Argument {
     File,
 }
 
-#[tactic(auto, using(crate::proofs::Laws::kind_none, crate::proofs::Laws::kind_help, crate::proofs::Laws::kind_input, crate::proofs::Laws::kind_unknown, crate::proofs::Laws::kind_file))]
 pub fn kind(arg: &[u8]) -> Argument
     ensures { result ≡ kind_of arg.now }
 {
-    if slices::equal(arg, b"--help") {
+    if arg == b"--help".as_slice() {
         return Argument::Help;
     }
-    if slices::equal(arg, b"-") {
+    if arg == b"-".as_slice() {
         return Argument::Input;
     }
-    if arg.len() == 0 {
-        return Argument::File;
-    }
-    if arg[0] == 45 {
+    if !arg.is_empty() && arg[0] == b'-' {
         return Argument::Unknown;
     }
     Argument::File
@@ -55,8 +51,7 @@ fn unknown_at(i: usize, later: Asks) -> Asks
 {
     match later {
         Asks::Help => Asks::Help,
-        Asks::Unknown(_) => Asks::Unknown(i),
-        Asks::Files => Asks::Unknown(i),
+        Asks::Unknown(_) | Asks::Files => Asks::Unknown(i),
     }
 }
 
@@ -68,8 +63,7 @@ fn first_of(a: Argument, i: usize, later: Asks) -> Asks
     match a {
         Argument::Help => Asks::Help,
         Argument::Unknown => unknown_at(i, later),
-        Argument::Input => later,
-        Argument::File => later,
+        Argument::Input | Argument::File => later,
     }
 }
 
@@ -102,13 +96,9 @@ fn kind_at<R: Env>(rt: &R, i: usize) -> Argument {
 
 // What the arguments from the first on ask.
 pub fn asked<R: Env>(rt: &R) -> Asks {
-    let mut i = arg_count(rt);
     let mut asks = Asks::Files;
-    while 1 < i {
-        i -= 1;
-        let k = kind_at(rt, i);
-        let next = first_of(k, i, asks);
-        asks = next;
+    for i in (1..arg_count(rt)).rev() {
+        asks = first_of(kind_at(rt, i), i, asks);
     }
     asks
 }
@@ -129,62 +119,36 @@ pub fn refuse<R: Env, E: Write>(rt: &R, errors: &mut E, program: &[u8], i: usize
     write_error(errors, b" (--help says what there is)\n");
 }
 
-// Where the text of an error of the system ends, before the number that std puts behind it in brackets.
-fn text_end(text: &[u8], n: usize) -> usize
-    requires { n ≤ length text.now }
-    ensures { result ≤ length text.now }
-{
-    let mut end = n;
-    while 1 < end {
-        end -= 1;
-        if text[end] == b'(' {
-            return end - 1;
-        }
-    }
-    n
-}
-
-// The first of two lengths, held at the second.
-fn at_most(n: u64, most: usize) -> usize
-    ensures { result ≤ most }
-{
-    if n <= most as u64 { n as usize } else { most }
+// The text of an error of the system without the number that std puts behind it in brackets.
+fn without_number(text: &[u8]) -> &[u8] {
+    let end = text
+        .iter()
+        .rposition(|b| *b == b'(')
+        .and_then(|i| i.checked_sub(1));
+    &text[..end.unwrap_or(text.len())]
 }
 
 // Writes a line to standard error: what failed, a colon and the cause.
 pub fn fail<E: Write>(errors: &mut E, what: &[u8], cause: io::Error) {
     let mut text = Cursor::new([0u8; 512]);
     let _ = write!(text, "{cause}");
-    let n = at_most(text.position(), 512);
+    let n = text.position().min(512) as usize;
     let bytes = text.into_inner();
-    let end = match cause.raw_os_error() {
-        Some(_) => text_end(&bytes, n),
-        None => n,
-    };
     write_error(errors, what);
     write_error(errors, b": ");
-    write_error(errors, &bytes[..end]);
+    if cause.raw_os_error().is_some() {
+        write_error(errors, without_number(&bytes[..n]));
+    } else {
+        write_error(errors, &bytes[..n]);
+    }
     write_error(errors, b"\n");
 }
 
-// The same, where the cause may not be known.
-fn fail_by<E: Write>(errors: &mut E, what: &[u8], cause: Option<io::Error>) {
-    match cause {
-        Some(e) => fail(errors, what, e),
-        None => {
-            write_error(errors, what);
-            write_error(errors, b": failed\n");
-        }
-    }
-}
-
 // Tells why a call on what `name` names failed.
-fn fail_name<E: Write>(errors: &mut E, name: &[u8], cause: Option<io::Error>) {
+fn fail_name<E: Write>(errors: &mut E, name: &[u8], cause: io::Error) {
     match kind(name) {
-        Argument::Input => fail_by(errors, b"standard input", cause),
-        Argument::File => fail_by(errors, name, cause),
-        Argument::Help => fail_by(errors, name, cause),
-        Argument::Unknown => fail_by(errors, name, cause),
+        Argument::Input => fail(errors, b"standard input", cause),
+        Argument::File | Argument::Help | Argument::Unknown => fail(errors, name, cause),
     }
 }
 
@@ -224,7 +188,7 @@ pub fn open<R: Files + Input, E: Write>(
     match open_file(rt, name) {
         Ok(file) => Some(Source::File(file)),
         Err(e) => {
-            fail_name(errors, name, Some(e));
+            fail_name(errors, name, e);
             None
         }
     }
@@ -235,67 +199,119 @@ pub fn close<F: Drop, I: Drop>(source: Source<F, I>) {
     let _ = source;
 }
 
-// How reading an input, and printing what it gives, ended.
+// How reading an input, and printing what it gives, ended: a read or a write that failed has its cause.
 #[derive(Clone, Copy)]
 pub enum Why {
     Ended,
-    ReadFailed,
-    WriteFailed,
+    ReadFailed(io::Error),
+    WriteFailed(io::Error),
     Limit,
 }
 
-// What the last read brought, and whether all writes succeeded.
-#[tactic(auto, unfolding(crate::specs::Tool::why_of))]
-pub fn ended_by(brought: Brought, ok: bool) -> Why
-    ensures { result ≡ why_of brought ok }
-{
-    if ok {
-        match brought {
-            Brought::Some => Why::Ended,
-            Brought::Ended => Why::Ended,
-            Brought::Failed => Why::ReadFailed,
-            Brought::Limit => Why::Limit,
-        }
-    } else {
-        Why::WriteFailed
-    }
+// What became of an input: how many bytes were read, how many were sent, modulo 2^64, and how that ended.
+#[derive(Clone, Copy)]
+pub struct Done {
+    pub total: u64,
+    pub sent: u64,
+    pub why: Why,
 }
 
-// The cause that belongs to how it ended, of those that a read and a write left.
-#[tactic(auto, unfolding(crate::specs::Tool::cause_of))]
-pub fn cause_of(why: Why, read: Option<io::Error>, written: Option<io::Error>) -> Option<io::Error>
-    ensures { result ≡ cause_of why read written }
+// By what the last read brought, and the cause where a write failed.
+#[tactic(auto, unfolding(crate::specs::Tool::why_of))]
+pub fn ended_by(brought: Brought, failed: Option<io::Error>) -> Why
+    ensures { result ≡ why_of brought failed }
 {
-    match why {
-        Why::Ended => None,
-        Why::ReadFailed => read,
-        Why::WriteFailed => written,
-        Why::Limit => None,
+    if let Some(e) = failed {
+        return Why::WriteFailed(e);
+    }
+    match brought {
+        Brought::Some | Brought::Ended => Why::Ended,
+        Brought::Failed(e) => Why::ReadFailed(e),
+        Brought::Limit => Why::Limit,
     }
 }
 
 // Tells on standard error what ended the reading of `name`, unless its end did. Answers whether the next input is read: after a write that
 // failed none is.
 #[tactic(auto, unfolding(crate::specs::Tool::next_read))]
-pub fn tell<E: Write>(errors: &mut E, name: &[u8], why: Why, cause: Option<io::Error>) -> bool
+pub fn tell<E: Write>(errors: &mut E, name: &[u8], why: Why) -> bool
     ensures { result ≡ next_read why }
 {
     match why {
-        Why::Ended => true,
-        Why::ReadFailed => {
-            fail_name(errors, name, cause);
-            true
-        }
-        Why::WriteFailed => {
-            fail_by(errors, b"standard output", cause);
-            false
-        }
+        Why::Ended => {}
+        Why::ReadFailed(e) => fail_name(errors, name, e),
+        Why::WriteFailed(e) => fail(errors, b"standard output", e),
         Why::Limit => {
             write_error(errors, name);
             write_error(errors, b": no more is read, after nearly 2^64 bytes\n");
+        }
+    }
+    !matches!(why, Why::WriteFailed(_))
+}
+
+// Reads by `run` the input that `name` names. Whether the next one is read.
+fn read_name<R: Files + Input, E: Write, F: Fn(&mut Source<R::File, R::Reader>) -> Done>(
+    rt: &R,
+    errors: &mut E,
+    name: &[u8],
+    run: &F,
+) -> bool
+    requires { F.IsAlwaysCallable run.now }
+    ensures { result ≡ false → WriteFailedIn (F.post run.now) }
+{
+    match open(rt, errors, name) {
+        None => true,
+        Some(opened) => {
+            let mut source = opened;
+            let done = run(&mut source);
+            close(source);
+            tell(errors, name, done.why)
+        }
+    }
+}
+
+// The same of argument `i`; `what` is told in place of a name that cannot be had.
+fn read_argument<R: Env + Files + Input, E: Write, F: Fn(&mut Source<R::File, R::Reader>) -> Done>(
+    rt: &R,
+    errors: &mut E,
+    what: &[u8],
+    i: usize,
+    run: &F,
+) -> bool
+    requires { F.IsAlwaysCallable run.now }
+    ensures { result ≡ false → WriteFailedIn (F.post run.now) }
+{
+    let mut name = [0u8; 4096];
+    match rt.arg(i, &mut name) {
+        Ok(n) => read_name(rt, errors, &name[..n], run),
+        Err(e) => {
+            fail(errors, what, argument_error(e));
             true
         }
     }
+}
+
+// Reads by `run` each input that the arguments name, in order; standard input where none is named. Whether all were read: after a write
+// that failed none is.
+pub fn read_each<R: Env + Files + Input, E: Write, F: Fn(&mut Source<R::File, R::Reader>) -> Done>(
+    rt: &R,
+    errors: &mut E,
+    what: &[u8],
+    run: F,
+) -> bool
+    requires { F.IsAlwaysCallable run }
+    ensures { result ≡ false → WriteFailedIn (F.post run) }
+{
+    let count = arg_count(rt);
+    if count < 2 {
+        return read_name(rt, errors, b"-", &run);
+    }
+    for i in 1..count {
+        if !read_argument(rt, errors, what, i, &run) {
+            return false;
+        }
+    }
+    true
 }
 
 // Prints a program's help.

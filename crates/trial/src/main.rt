@@ -2,8 +2,6 @@
 // contract of `trial_io::run`; which are read, in which order, and what is told on standard error stays by reading.
 #![tactic(auto)]
 
-use std::env::Env;
-use std::fs::Files;
 use std::io;
 use std::io::Write;
 use tool::Asks;
@@ -38,53 +36,18 @@ read; after a write that fails nothing is. There is no exit status: it is always
     );
 }
 
-// Reads one input. Answers whether the next one is read.
-fn input<R: Files + Input + Print, E: Write>(rt: &R, errors: &mut E, name: &[u8]) -> bool {
-    match tool::open(rt, errors, name) {
-        None => true,
-        Some(opened) => {
-            let mut source = opened;
-            let done = trial_io::run(&mut source, &mut io::writer(rt));
-            let why = done.why;
-            let next = tool::tell(errors, name, why, done.cause);
-            tool::close(source);
-            next
-        }
-    }
-}
-
-// Reads the input that argument `i` names.
-fn argument<R: Env + Files + Input + Print, E: Write>(rt: &R, errors: &mut E, i: usize) -> bool {
-    let mut name = [0u8; 4096];
-    match rt.arg(i, &mut name) {
-        Ok(n) => input(rt, errors, &name[..n]),
-        Err(e) => {
-            tool::fail(errors, b"argument", tool::argument_error(e));
-            true
-        }
-    }
-}
-
-fn files<R: Env + Files + Input + Print, E: Write>(rt: &R, errors: &mut E, count: usize) {
-    let mut i = 1;
-    while i < count && argument(rt, errors, i) {
-        i += 1;
-    }
-}
-
 fn main(rt: HostRuntime) {
     let mut errors = rt.stderr();
-    let asks = tool::asked(&rt);
-    match asks {
+    match tool::asked(&rt) {
         Asks::Help => help(&rt, &mut errors),
         Asks::Unknown(i) => tool::refuse(&rt, &mut errors, b"trial", i),
         Asks::Files => {
-            let count = tool::arg_count(&rt);
-            if count < 2 {
-                input(&rt, &mut errors, b"-");
-            } else {
-                files(&rt, &mut errors, count);
-            }
+            tool::read_each(
+                &rt,
+                &mut errors,
+                b"argument",
+                |source| trial_io::run(source, &mut io::writer(&rt)),
+            );
         }
     }
 }

@@ -96,7 +96,7 @@ pub passed_more :
     length out' ≡ length out →
     Passed t₀ b₀ s n first before t b number at used sent →
     Answers t number b (part s at n) out r b' out' →
-    Sends sent r.filled sent' →
+    Sends sent (length (take r.filled out')) sent' →
     Passed t₀ b₀ s n first before r.trial b' (number + r.count) (at + r.used) r.used sent'
 passed_more {t₀} {b₀} {s} {n} {first} {before} {t} {b} {number} {at} {out' = out'} {r = r} {sent' = sent'} g l k a w =
     let ls = take r.count (lines_of (part s at n)) in
@@ -106,8 +106,7 @@ passed_more {t₀} {b₀} {s} {n} {first} {before} {t} {b} {number} {at} {out' =
     let e : drop r.used (part s at n) ≡ part s (at + r.used) n = part_drop s at r.used n in
     let m : length (part s at n) ≤ n - at = omega (arith, length-take (n - at) (drop at s)) in
     let q : behind p R ≡ run_lines R₀ k.answered = rw append-nil k.run in
-    let f : length (take r.filled out') ≡ r.filled = length-take-le r.filled out' (omega (arith, l, a.room)) in
-    let m' : length p + r.filled ≡ length (p ++ take r.filled out') = sym (length-append p (take r.filled out') ∙ rw f) in
+    let m' : length p + length (take r.filled out') ≡ length (p ++ take r.filled out') = sym (length-append p (take r.filled out')) in
     record {
       answered = k.answered ++ ls;
       printed = p ++ take r.filled out';

@@ -45,13 +45,11 @@ pub fn whole_lines<W: Write>(
     let mut used = 1;
     while used != 0 {
         let q = trial_lines::answers(trial, number, &buf[at..n], out, log, replies, invokes);
-        let after = q.trial;
-        trial = after;
+        trial = q.trial;
         number += q.count;
         used = q.used;
         at += used;
-        let more = output::send(writer, out, q.filled, sent);
-        sent = more;
+        sent = output::send(writer, &out[..q.filled], sent);
     }
     let held = trial_bytes::keep(buf, at, n);
     After {

@@ -3,7 +3,8 @@ use Rattle.std.specs.declared.option.Option.{Option}
 use Rattle.std.specs.declared.io.Error.{Error}
 use Prim.Native.Nat.{ℕ, ◌+◌, ◌-◌, ◌%◌, ◌^◌, ◌≤◌, ◌<◌}
 use mathlib.Core.Path.{◌≡◌, refl, sym, ap, ◌∙◌}
-use mathlib.Core.Bool.{Bool, true, false, cond, ◌&&◌, true≢false}
+use Rattle.std.specs.Prelude.{Some, None, IsNone, is_some, is_none}
+use mathlib.Core.Bool.{Bool, true, false, not, cond, ◌&&◌, true≢false}
 use mathlib.Core.List.{List, [], ◌∷◌, ◌++◌}
 use native.Mathlib.Omega.{arith}
 use lib.ListN.{length, take, drop, replicate, length-append, length-take, length-drop, take-append-drop}
@@ -23,7 +24,7 @@ use Rattle.trial_core.specs.Moves.{lent_of}
 use Rattle.trial_core.specs.Sizes.{log_length, replies_length, invokes_length}
 use Rattle.trial_bytes.specs.Held.{Ends}
 use Rattle.trial_io.specs.declared.Reading.{Reading}
-use Rattle.trial_io.specs.declared.Done.{Done}
+use Rattle.tool.specs.declared.Done.{Done}
 use Rattle.trial_io.specs.Printed.{printed_of, printed_whole}
 use Rattle.trial_buffer.specs.Whole.{Whole}
 use Rattle.trial_io.specs.Reached.{Reached, ReachedBy, ReadTo, Ran, at_end}
@@ -36,7 +37,7 @@ pub record Going (t : Trial) (b : Lent) (number held : ℕ) (s : Sent) (total : 
   pub size : length buf ≡ 65536
   pub few : number + held ≤ total
   pub below : total < 2 ^ 64 - 1
-  pub stops : going ≡ false → s.ok ≡ true → goes_on br ≡ false
+  pub stops : going ≡ false → IsNone s.failed → goes_on br ≡ false
   pub limit : br ≡ B.Limit → 2 ^ 64 - 65537 ≤ total
 
 pub going_none : (t : Trial) (b : Lent) (s : Sent) (buf : List ℕ) → t ≡ start_trial → b ≡ start_lent → s.bytes ≡ 0 → length buf ≡ 65536 → Going t b 0 0 s 0 B.Some true buf
@@ -108,7 +109,7 @@ module _
       Whole t b x number s r.count t' b' buf' number' s' held' →
       length buf' ≡ length x →
       g ≡ goes_on r.brought →
-      Going t' b' number' held' s' r.total r.brought (g && s'.ok) buf'
+      Going t' b' number' held' s' r.total r.brought (g && is_none s'.failed) buf'
   going_more {s' = s'} {g = g} l w l' e =
       let n = came_length d l in
       let z : length x ≡ 65536 = l ∙ k.size in
@@ -123,7 +124,7 @@ module _
         size = l' ∙ z;
         few = omega (arith, w.few, k.few, d.counted, d.behind);
         below = total-below d k.below;
-        stops = λ f o. sym e ∙ both_false g s'.ok f o;
+        stops = λ f o. sym e ∙ both_false g (is_none s'.failed) f (ap not o);
         limit = λ f.
             let q : goes_on r.brought ≡ false = ap goes_on f ∙ limit-stops in
             omega (arith, d.limit f, k.size, same_total d q);
@@ -145,69 +146,70 @@ absurd_why w e f = absurd (true≢false (sym (ap at_end e) ∙ f))
 at-end : (w : Why) → at_end w ≡ true → w ≡ W.Ended
 unfolding at_end
 at-end W.Ended e = refl
-at-end W.ReadFailed e = absurd (true≢false (sym e))
-at-end W.WriteFailed e = absurd (true≢false (sym e))
+at-end (W.ReadFailed c) e = absurd (true≢false (sym e))
+at-end (W.WriteFailed c) e = absurd (true≢false (sym e))
 at-end W.Limit e = absurd (true≢false (sym e))
 
--- where a write failed nothing else is said
-why_ok : (br : Brought) (ok : Bool) (w : Why) → why_of br ok ≡ w → (w ≡ W.WriteFailed → ⊥) → ok ≡ true
-unfolding why_of
-why_ok br true w e f = refl
-why_ok br false w e f = absurd (f (sym e))
+-- two ways to end are not one
+other : {A : Type 0} → ◌≡◌ {A = ℕ} 0 1 → A
+other e = absurd (omega (arith, e))
 
-why_limit : (br : Brought) (ok : Bool) → why_of br ok ≡ W.Limit → br ≡ B.Limit
+-- where a write failed nothing else is said
+why_ok : (br : Brought) (o : Option Error) (w : Why) → why_of br o ≡ w → ((c : Error) → w ≡ W.WriteFailed c → ⊥) → IsNone o
 unfolding why_of
-why_limit B.Limit ok e = refl
-why_limit B.Some true e = absurd (let z : ◌≡◌ {A = ℕ} 0 1 = cc e in omega arith)
-why_limit B.Some false e = absurd (let z : ◌≡◌ {A = ℕ} 0 1 = cc e in omega arith)
-why_limit B.Ended true e = absurd (let z : ◌≡◌ {A = ℕ} 0 1 = cc e in omega arith)
-why_limit B.Ended false e = absurd (let z : ◌≡◌ {A = ℕ} 0 1 = cc e in omega arith)
-why_limit B.Failed true e = absurd (let z : ◌≡◌ {A = ℕ} 0 1 = cc e in omega arith)
-why_limit B.Failed false e = absurd (let z : ◌≡◌ {A = ℕ} 0 1 = cc e in omega arith)
+why_ok br None w e f = refl
+why_ok br (Some c) w e f = absurd (f c (sym e))
+
+why_limit : (br : Brought) (o : Option Error) → why_of br o ≡ W.Limit → br ≡ B.Limit
+unfolding why_of
+why_limit br (Some c) e = other (cc e)
+why_limit B.Limit None e = refl
+why_limit B.Some None e = other (cc e)
+why_limit B.Ended None e = other (cc e)
+why_limit (B.Failed c) None e = other (cc e)
 
 -- the last line's bytes sent or not, the input ended
-why_again : (br : Brought) (ok ok' : Bool) (w : Why) → why_of br ok ≡ W.Ended → why_of br ok' ≡ w → (w ≡ W.Ended → ⊥) → (w ≡ W.WriteFailed → ⊥) → ⊥
+why_again : (br : Brought) (o o' : Option Error) (w : Why) → why_of br o ≡ W.Ended → why_of br o' ≡ w → (w ≡ W.Ended → ⊥) → ((c : Error) → w ≡ W.WriteFailed c → ⊥) → ⊥
 unfolding why_of
-why_again br ok false w e f g h = h (sym f)
-why_again br false true w e f g h = let z : ◌≡◌ {A = ℕ} 0 1 = cc e in omega arith
-why_again br true true w e f g h = g (sym f ∙ e)
+why_again br o (Some c) w e f g h = h c (sym f)
+why_again br (Some c) None w e f g h = other (cc e)
+why_again br None None w e f g h = g (sym f ∙ e)
 
-ended≢written : (w : Why) → w ≡ W.Ended → w ≡ W.WriteFailed → ⊥
-ended≢written w e f = let z : ◌≡◌ {A = ℕ} 0 1 = cc (e, f) in omega arith
+ended≢written : (w : Why) → w ≡ W.Ended → (c : Error) → w ≡ W.WriteFailed c → ⊥
+ended≢written w e c f = other (cc (e, f))
 
 -- reading stopped before the end
-pub ran-short : {q : Reading} {b : Lent} {buf : List ℕ} {w : Why} {o : Option Error} → ReadTo q b buf → w ≡ why_of q.brought q.after.sent.ok → at_end w ≡ false → Ran (record { total = q.total; sent = q.after.sent.bytes; why = w; cause = o })
+pub ran-short : {q : Reading} {b : Lent} {buf : List ℕ} {w : Why} → ReadTo q b buf → w ≡ why_of q.brought q.after.sent.failed → at_end w ≡ false → Ran (record { total = q.total; sent = q.after.sent.bytes; why = w })
 ran-short {q} {w = w} k e f =
     record {
       input = k.by.input;
       all = k.by.all;
       ended = λ g. absurd_why w g f;
-      failed = λ g.
-          sent-whole k.by.reached (why_ok q.brought q.after.sent.ok w (sym e) (λ h. let z : ◌≡◌ {A = ℕ} 0 1 = cc (g, h) in omega arith));
+      failed = λ d g. sent-whole k.by.reached (why_ok q.brought q.after.sent.failed w (sym e) (λ c h. other (cc (g, h))));
       limit = λ g. (
-        sent-whole k.by.reached (why_ok q.brought q.after.sent.ok w (sym e) (λ h. let z : ◌≡◌ {A = ℕ} 0 1 = cc (g, h) in omega arith)),
-        omega (arith, k.by.all, k.limit (why_limit q.brought q.after.sent.ok (sym e ∙ g))),
+        sent-whole k.by.reached (why_ok q.brought q.after.sent.failed w (sym e) (λ c h. other (cc (g, h)))),
+        omega (arith, k.by.all, k.limit (why_limit q.brought q.after.sent.failed (sym e ∙ g))),
       );
     }
 
 -- the input ended, and its last line was answered
 pub ran-ended :
-    {q : Reading} {b : Lent} {buf x : List ℕ} {w v : Why} {n : ℕ} {t' : Trial} {b' : Lent} {buf' : List ℕ} {number' : ℕ} {s' : Sent} {held' : ℕ} {o : Option Error} →
+    {q : Reading} {b : Lent} {buf x : List ℕ} {w v : Why} {n : ℕ} {t' : Trial} {b' : Lent} {buf' : List ℕ} {number' : ℕ} {s' : Sent} {held' : ℕ} →
     ReadTo q b buf →
-    w ≡ why_of q.brought q.after.sent.ok →
+    w ≡ why_of q.brought q.after.sent.failed →
     at_end w ≡ true →
     Ends buf x q.after.held n →
     length x ≡ 65536 →
     Whole q.after.trial b x q.after.number q.after.sent n t' b' buf' number' s' held' →
-    v ≡ why_of q.brought s'.ok →
-    Ran (record { total = q.total; sent = s'.bytes; why = v; cause = o })
+    v ≡ why_of q.brought s'.failed →
+    Ran (record { total = q.total; sent = s'.bytes; why = v })
 ran-ended {q} {buf = buf} {w = w} {v = v} {s' = s'} k e f d l a y =
-    let z : why_of q.brought q.after.sent.ok ≡ W.Ended = sym e ∙ at-end w f in
-    let other = why_again q.brought q.after.sent.ok s'.ok v z (sym y) in
+    let z : why_of q.brought q.after.sent.failed ≡ W.Ended = sym e ∙ at-end w f in
+    let not_other = why_again q.brought q.after.sent.failed s'.failed v z (sym y) in
     record {
       input = k.by.input;
       all = k.by.all;
-      ended = λ g. sent_all (take q.after.held buf) k.by.reached a d.line l (why_ok q.brought s'.ok v (sym y) (ended≢written v g));
-      failed = λ g. absurd (other (λ h. let u : ◌≡◌ {A = ℕ} 0 1 = cc (g, h) in omega arith) (λ h. let u : ◌≡◌ {A = ℕ} 0 1 = cc (g, h) in omega arith));
-      limit = λ g. absurd (other (λ h. let u : ◌≡◌ {A = ℕ} 0 1 = cc (g, h) in omega arith) (λ h. let u : ◌≡◌ {A = ℕ} 0 1 = cc (g, h) in omega arith));
+      ended = λ g. sent_all (take q.after.held buf) k.by.reached a d.line l (why_ok q.brought s'.failed v (sym y) (ended≢written v g));
+      failed = λ c g. absurd (not_other (λ h. other (cc (g, h))) (λ d h. other (cc (g, h))));
+      limit = λ g. absurd (not_other (λ h. other (cc (g, h))) (λ d h. other (cc (g, h))));
     }

@@ -1,6 +1,7 @@
 -- How far the reads came: more bytes after an input, and its end. Assumes nothing.
 use Prim.Native.Nat.{ℕ, ◌+◌, ◌%◌, ◌^◌, ◌≤◌, ◌<◌}
 use mathlib.Core.Path.{◌≡◌, refl, sym, ap, ◌∙◌}
+use Rattle.std.specs.Prelude.{IsNone}
 use mathlib.Core.Bool.{true, false}
 use mathlib.Core.List.{List, [], ◌∷◌, ◌++◌, map, append-nil, append_assoc}
 use mathlib.Core.Logic.{◌⊎◌, inl, inr}
@@ -191,7 +192,7 @@ reached_none s e =
       sent = λ _. e;
     }
 
-module _ {input : List ℕ} {t : Trial} {b : Lent} {number : ℕ} {s : Sent} {h : List ℕ} (k : Reached input t b number s h) (ok : s.ok ≡ true) where
+module _ {input : List ℕ} {t : Trial} {b : Lent} {number : ℕ} {s : Sent} {h : List ℕ} (k : Reached input t b number s h) (ok : IsNone s.failed) where
   -- where the reads stop before the end, the whole lines are sent
   pub sent-whole : s.bytes ≡ length (printed_whole input) % 2 ^ 64
   unfolding printed_whole
@@ -245,7 +246,7 @@ pub sent_all :
     Whole t b buf number s n t' b' buf' number' s' held' →
     take n buf ≡ last_line h →
     length buf ≡ 65536 →
-    s'.ok ≡ true →
+    IsNone s'.failed →
     s'.bytes ≡ length (printed_of input) % 2 ^ 64
 unfolding last_line
 sent_all [] k w e room ok =

@@ -1,5 +1,5 @@
 -- All that was read of an input, what its lines left, and what was sent.
-use Rattle.std.specs.Prelude.{ℕ, ◌+◌, ◌-◌, ◌%◌, ◌^◌, ◌≤◌, ◌<◌, ◌≡◌, Bool, true, false, List, [], ◌∷◌, ◌++◌, ◌⊎◌, length, take}
+use Rattle.std.specs.Prelude.{ℕ, ◌+◌, ◌-◌, ◌%◌, ◌^◌, ◌≤◌, ◌<◌, ◌≡◌, Bool, true, false, IsNone, List, [], ◌∷◌, ◌++◌, ◌⊎◌, length, take}
 use Rattle.input.specs.declared.Brought.TheVariants as B
 use Rattle.input.specs.Reads.{goes_on}
 use Rattle.output.specs.declared.Sent.{Sent}
@@ -9,7 +9,8 @@ use Rattle.trial_core.specs.declared.Trial.{Trial}
 use Rattle.trial_core.specs.Trial.{Lent}
 use Rattle.trial_lines.specs.Lines.{Run, lines_of}
 use Rattle.trial_io.specs.declared.Reading.{Reading}
-use Rattle.trial_io.specs.declared.Done.{Done}
+use Rattle.std.specs.declared.io.Error.{Error}
+use Rattle.tool.specs.declared.Done.{Done}
 use Rattle.trial_io.specs.Printed.{run_of, printed_of, printed_whole}
 
 -- bytes h, without a line feed, are held for an over-long line, of which bytes p have come
@@ -32,7 +33,7 @@ pub record Reached (input : List ℕ) (t : Trial) (b : Lent) (number : ℕ) (s :
   pub pieces : lines_of input ≡ lines ++ (left ∷ [])
   pub run : ◌≡◌ {A = Run} (record { trial = t; lent = b; number = number; printed = printed }) (run_of lines)
   pub stands : Stands h left
-  pub sent : s.ok ≡ true → s.bytes ≡ length printed % 2 ^ 64
+  pub sent : IsNone s.failed → s.bytes ≡ length printed % 2 ^ 64
 
 -- some input of as many bytes as were read was reached
 pub record ReachedBy (total : ℕ) (t : Trial) (b : Lent) (number : ℕ) (s : Sent) (h : List ℕ) : Type 0 where
@@ -46,13 +47,13 @@ pub record ReadTo (r : Reading) (b : Lent) (buf : List ℕ) : Type 0 where
   pub room : r.after.held < length buf
   pub few : r.after.number + r.after.held ≤ r.total
   pub below : r.total < 2 ^ 64 - 1
-  pub stops : r.after.sent.ok ≡ true → goes_on r.brought ≡ false
+  pub stops : IsNone r.after.sent.failed → goes_on r.brought ≡ false
   pub limit : r.brought ≡ B.Limit → 2 ^ 64 - 65537 ≤ r.total
 
 unfoldable pub at_end : Why → Bool
 at_end W.Ended = true
-at_end W.ReadFailed = false
-at_end W.WriteFailed = false
+at_end (W.ReadFailed e) = false
+at_end (W.WriteFailed e) = false
 at_end W.Limit = false
 
 -- the program on an input: all that the reads brought, in their order
@@ -61,5 +62,5 @@ pub record Ran (r : Done) : Type 0 where
   pub all : length input ≡ r.total
   -- to the end of the input every line was printed; else every line that a line feed ends; where a write failed nothing is known
   pub ended : r.why ≡ W.Ended → r.sent ≡ length (printed_of input) % 2 ^ 64
-  pub failed : r.why ≡ W.ReadFailed → r.sent ≡ length (printed_whole input) % 2 ^ 64
+  pub failed : (e : Error) → r.why ≡ W.ReadFailed e → r.sent ≡ length (printed_whole input) % 2 ^ 64
   pub limit : r.why ≡ W.Limit → (r.sent ≡ length (printed_whole input) % 2 ^ 64) × (2 ^ 64 - 65537 ≤ length input)

@@ -10,18 +10,16 @@ ghost use Rattle.trial_core.specs.Sizes.{log_length, replies_length, invokes_len
 ghost use Rattle.trial_io.specs.Reached.{ReadTo, Ran, at_end};
 
 use input::Brought;
-use std::io;
 use std::io::{Read, Write};
-use tool::Why;
+use tool::{Done, Why};
 use trial_buffer::After;
 
-// After the reads: what the lines left, how many bytes were read, what the last read brought, and the cause where it failed.
+// After the reads: what the lines left, how many bytes were read, and what the last read brought.
 #[derive(Clone, Copy)]
 struct Reading {
     after: After,
     total: u64,
     brought: Brought,
-    cause: Option<io::Error>,
 }
 
 // Reads an input to its end, from a fresh trial, and answers its whole lines. It stops where a write fails, and where nearly 2^64 bytes
@@ -38,99 +36,57 @@ fn read_lines<R: Read, W: Write>(
     requires { (length buf.old ≡ 65536) × (64 ≤ length out.old) × (lent_of log.old replies.old invokes.old ≡ start_lent) }
     ensures { ReadTo result (lent_of log.new replies.new invokes.new) buf.new }
 {
-    let mut trial = trial_start::start();
-    let mut number: u64 = 0;
-    let mut held = 0;
-    let mut sent = output::none();
+    let mut after = After {
+        trial: trial_start::start(),
+        number: 0,
+        held: 0,
+        sent: output::none(),
+    };
     let mut total: u64 = 0;
     let mut brought = Brought::Some;
-    let mut cause = None;
     let mut going = true;
     while going {
-        let got = input::read(reader, buf, held, total);
+        let got = input::read(reader, buf, after.held, total);
         total = got.total;
-        let b = got.brought;
-        brought = b;
-        cause = got.cause;
-        let q = trial_buffer::whole_lines(
-            writer, trial, number, sent, got.count, buf, out, log, replies, invokes,
+        brought = got.brought;
+        after = trial_buffer::whole_lines(
+            writer,
+            after.trial,
+            after.number,
+            after.sent,
+            got.count,
+            buf,
+            out,
+            log,
+            replies,
+            invokes,
         );
-        let next = q.trial;
-        trial = next;
-        number = q.number;
-        held = q.held;
-        let s = q.sent;
-        sent = s;
-        going = input::goes_on(b) & s.ok;
+        going = brought.goes_on() & after.sent.failed.is_none();
     }
     Reading {
-        after: After {
-            trial,
-            number,
-            held,
-            sent,
-        },
+        after,
         total,
         brought,
-        cause,
     }
-}
-
-// 65,536 zeros.
-fn large_buffer() -> [u8; 65536]
-    ensures { 65536 ≡ length result }
-{
-    [0; 65536]
-}
-
-fn zero_log() -> [u8; trial_core::LOG_LENGTH]
-    ensures { result ≡ replicate log_length 0 }
-{
-    [0; trial_core::LOG_LENGTH]
-}
-
-fn zero_replies() -> [u8; trial_core::REPLIES_LENGTH]
-    ensures { result ≡ replicate replies_length 0 }
-{
-    [0; trial_core::REPLIES_LENGTH]
-}
-
-fn zero_invokes() -> [u8; trial_core::INVOKES_LENGTH]
-    ensures { result ≡ replicate invokes_length 0 }
-{
-    [0; trial_core::INVOKES_LENGTH]
-}
-
-// What became of an input: how many bytes were read, how many were sent, modulo 2^64, how that ended, and the cause where it failed.
-#[derive(Clone, Copy)]
-pub struct Done {
-    pub total: u64,
-    pub sent: u64,
-    pub why: Why,
-    pub cause: Option<io::Error>,
 }
 
 // Whether the input was read to its end, and all of it sent so far.
+#[tactic(auto, unfolding(crate::specs::Reached::at_end))]
 fn at_end(why: Why) -> bool
     ensures { result ≡ at_end why }
 {
-    match why {
-        Why::Ended => true,
-        Why::ReadFailed => false,
-        Why::WriteFailed => false,
-        Why::Limit => false,
-    }
+    matches!(why, Why::Ended)
 }
 
 // Reads what a reader gives to its end, from a fresh trial, and prints what its lines give; at its end, bytes after the last line feed are a line.
 pub fn run<R: Read, W: Write>(reader: &mut R, writer: &mut W) -> Done
     ensures { Ran result }
 {
-    let mut buf = large_buffer();
-    let mut out = large_buffer();
-    let mut log = zero_log();
-    let mut replies = zero_replies();
-    let mut invokes = zero_invokes();
+    let mut buf = [0u8; 65536];
+    let mut out = [0u8; 65536];
+    let mut log = [0u8; trial_core::LOG_LENGTH];
+    let mut replies = [0u8; trial_core::REPLIES_LENGTH];
+    let mut invokes = [0u8; trial_core::INVOKES_LENGTH];
     let q = read_lines(
         reader,
         writer,
@@ -140,19 +96,14 @@ pub fn run<R: Read, W: Write>(reader: &mut R, writer: &mut W) -> Done
         &mut replies,
         &mut invokes,
     );
-    let total = q.total;
-    let brought = q.brought;
-    let after = q.after;
-    let sent = after.sent;
-    let why = tool::ended_by(brought, sent.ok);
+    let why = tool::ended_by(q.brought, q.after.sent.failed);
     if at_end(why) {
-        let trial = after.trial;
-        let n = trial_bytes::end_line(&mut buf, after.held);
+        let n = trial_bytes::end_line(&mut buf, q.after.held);
         let last = trial_buffer::whole_lines(
             writer,
-            trial,
-            after.number,
-            sent,
+            q.after.trial,
+            q.after.number,
+            q.after.sent,
             n,
             &mut buf,
             &mut out,
@@ -160,19 +111,15 @@ pub fn run<R: Read, W: Write>(reader: &mut R, writer: &mut W) -> Done
             &mut replies,
             &mut invokes,
         );
-        let all = last.sent;
-        let how = tool::ended_by(brought, all.ok);
         return Done {
-            total,
-            sent: all.bytes,
-            why: how,
-            cause: tool::cause_of(how, q.cause, all.cause),
+            total: q.total,
+            sent: last.sent.bytes,
+            why: tool::ended_by(q.brought, last.sent.failed),
         };
     }
     Done {
-        total,
-        sent: sent.bytes,
+        total: q.total,
+        sent: q.after.sent.bytes,
         why,
-        cause: tool::cause_of(why, q.cause, sent.cause),
     }
 }

@@ -10,10 +10,8 @@ use sha256::Digested;
 fn repeat(out: &mut [u8], n: usize, total: usize)
     requires { total ≤ length out.old }
 {
-    let mut i = n;
-    while i < total {
+    for i in n..total {
         out[i] = out[i - n];
-        i += 1;
     }
 }
 
@@ -32,8 +30,7 @@ fn spelled(line: &[u8], k: usize, out: &mut [u8]) -> usize
 fn show<R: Print>(rt: &R, line: &[u8], bytes: &[u8; 32]) {
     let shown = call_lines::number_at(line, 2, 32) as usize;
     call_lines::print(rt, call_lines::nth_word(line, 1));
-    let all = &bytes[..];
-    call_lines::print_hex(rt, &all[0..shown]);
+    call_lines::print_hex(rt, &bytes[..shown]);
 }
 
 fn show_refused<R: Print>(rt: &R, line: &[u8]) {
@@ -42,7 +39,7 @@ fn show_refused<R: Print>(rt: &R, line: &[u8]) {
 }
 
 fn digest_case<R: Print>(rt: &R, line: &[u8]) {
-    let mut m = call_lines::large_buffer();
+    let mut m = [0u8; 65536];
     let n = spelled(line, 3, &mut m);
     let mut out = [0u8; 32];
     match sha256::digest(&m[0..n], &mut out) {
@@ -52,9 +49,9 @@ fn digest_case<R: Print>(rt: &R, line: &[u8]) {
 }
 
 fn tag_case<R: Print>(rt: &R, line: &[u8]) {
-    let mut k = call_lines::large_buffer();
+    let mut k = [0u8; 65536];
     let kn = spelled(line, 3, &mut k);
-    let mut m = call_lines::large_buffer();
+    let mut m = [0u8; 65536];
     let n = spelled(line, 5, &mut m);
     let mut out = [0u8; 32];
     match hmac::tag(&k[0..kn], &m[0..n], &mut out) {
@@ -71,18 +68,11 @@ fn one<R: Print>(rt: &R, line: &[u8]) {
     }
 }
 
-fn lines<R: Print>(rt: &R, text: &[u8]) {
-    let mut at = 0;
-    while at < text.len() {
-        let e = call_lines::end(text, at, 10);
-        one(rt, &text[at..e]);
-        call_lines::print_end(rt);
-        at = e + 1;
-    }
-}
-
 fn main(rt: HostRuntime) {
-    let mut text = call_lines::large_buffer();
+    let mut text = [0u8; 65536];
     let n = call_lines::read_full(&mut rt.stdin(), &mut text);
-    lines(&rt, &text[..n]);
+    for line in text[..n].split_inclusive(|b| *b == b'\n') {
+        one(&rt, line.strip_suffix(b"\n".as_slice()).unwrap_or(line));
+        call_lines::print_end(&rt);
+    }
 }

@@ -8,4 +8,4 @@ pub finish-sent-requires : goal.finish-sent-requires
 finish-sent-requires g c = let s = c.tell_input-q.ensures in let f = reached-few s.reached s.room in (omega (arith, s.room), search rules, omega (arith, f, s.below))
 
 pub returns : goal.returns
-returns g c = ran c.tell_input-q.ensures c.finish-sent.ensures c.ended_by-why.ensures
+returns g c = ran c.tell_input-q.ensures c.finish-sent.ensures c.ended_by.ensures

@@ -11,11 +11,11 @@ loop-used-init g c = (passing_none _ _ _ _ (search rules) (search rules), search
 pub tell_lines-q-requires : goal.tell_lines-q-requires
 tell_lines-q-requires g c = let k = c.loop-used.invariant.0 in omega (arith, k.few, k.low, k.within, c.requires, length-take (c.args.n - c.loop-used.at) (drop c.loop-used.at c.args.buf.now))
 
-pub overflow_add-number : goal.overflow_add-number
-overflow_add-number g c = let k = c.loop-used.invariant.0 in let a = c.tell_lines-q.ensures in record { fits = omega (arith, k.few, k.low, k.within, c.requires, a.each, a.within, length-take (c.args.n - c.loop-used.at) (drop c.loop-used.at c.args.buf.now)) }
+pub overflow_add-state : goal.overflow_add-state
+overflow_add-state g c = let k = c.loop-used.invariant.0 in let a = c.tell_lines-q.ensures in record { fits = omega (arith, k.few, k.low, k.within, c.requires, a.each, a.within, length-take (c.args.n - c.loop-used.at) (drop c.loop-used.at c.args.buf.now)) }
 
 pub loop-used-preserved : goal.loop-used-preserved
-loop-used-preserved g c = let k = c.loop-used in let a = c.tell_lines-q in (passing_more {r = a.result} (search rules) (search rules) k.invariant.0 a.ensures c.send-s.ensures.sends, search rules)
+loop-used-preserved g c = let k = c.loop-used in let a = c.tell_lines-q in (passing_more {r = a.result} (search rules) k.invariant.0 a.ensures c.send-sent.ensures.sends, search rules)
 
 pub returns : goal.returns
 returns g c = let k = c.loop-used.invariant.0 in (passing_past (search rules) k, k.low, k.within)

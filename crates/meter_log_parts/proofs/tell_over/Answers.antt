@@ -23,4 +23,4 @@ tell_from-requires g c =
 pub returns : goal.returns
 returns g c =
     let t = c.tell_from.ensures in
-    over_to _ _ _ c.requires.0 c.find-e.ensures _ c.if-e-n.false c.tell_long-step.ensures c.tell_one-next.ensures t.0 t.1 t.2
+    over_to _ _ _ c.requires.0 c.find-e.ensures _ c.if-e-n.false c.tell_long-step.ensures c.tell_one-next.ensures t.0 t.1

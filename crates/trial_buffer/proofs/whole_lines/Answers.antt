@@ -16,7 +16,7 @@ loop-used-preserved g c =
     let k = c.loop-used in
     let a = c.answers-q in
     let g : 64 ≤ length k.out = omega (arith, c.requires.2, k.invariant.1) in
-    (passed_more {r = a.result} g (search rules) k.invariant.0 a.ensures c.send-more.ensures.sends, search rules)
+    (passed_more {r = a.result} g (search rules) k.invariant.0 a.ensures c.send-sent.ensures.sends, search rules)
 
 pub returns : goal.returns
 returns g c = whole (search rules) c.loop-used.invariant.0 c.keep-held.ensures

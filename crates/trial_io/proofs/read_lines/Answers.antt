@@ -1,3 +1,4 @@
+use Rattle.std.specs.Prelude.{is_none}
 use Prim.Native.Nat.{◌-◌}
 use mathlib.Core.Path.{refl}
 use native.Mathlib.Omega.{arith}
@@ -8,14 +9,14 @@ use Rattle.trial_io.proofs.read_lines.Goals as goal
 pub loop-going-init : goal.loop-going-init
 loop-going-init g c = (going_none _ _ _ _ c.start-trial.ensures c.requires.2 c.none-sent.ensures.0 c.requires.0, refl)
 
-pub whole_lines-q-requires : goal.whole_lines-q-requires
-whole_lines-q-requires g c = let k = c.loop-going.invariant.0 in let d = c.read-got.ensures.reads in (omega (arith, d.within), omega (arith, k.size), omega (arith, c.loop-going.invariant.1, c.requires.1), going_fits k d)
+pub whole_lines-after-requires : goal.whole_lines-after-requires
+whole_lines-after-requires g c = let k = c.loop-going.invariant.0 in let d = c.read-got.ensures.reads in (omega (arith, d.within), omega (arith, k.size), omega (arith, c.loop-going.invariant.1, c.requires.1), going_fits k d)
 
 pub loop-going-smaller : goal.loop-going-smaller
-loop-going-smaller g c = read_less c.read-got.ensures.reads c.whole_lines-q.result.sent.ok c.loop-going.invariant.0.below c.loop-going-test.true c.goes_on.ensures
+loop-going-smaller g c = read_less c.read-got.ensures.reads (is_none c.whole_lines-after.result.sent.failed) c.loop-going.invariant.0.below c.loop-going-test.true c.goes_on.ensures
 
 pub loop-going-preserved : goal.loop-going-preserved
-loop-going-preserved g c = let k = c.loop-going.invariant.0 in (going_more k c.read-got.ensures.reads (search rules) c.whole_lines-q.ensures (search rules) c.goes_on.ensures, search rules)
+loop-going-preserved g c = let k = c.loop-going.invariant.0 in (going_more k c.read-got.ensures.reads (search rules) c.whole_lines-after.ensures (search rules) c.goes_on.ensures, search rules)
 
 pub returns : goal.returns
 returns g c = going_ends c.loop-going.invariant.0 c.loop-going-test.false

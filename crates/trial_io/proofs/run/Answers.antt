@@ -18,7 +18,7 @@ pub whole_lines-last-requires : goal.whole_lines-last-requires
 whole_lines-last-requires g c = let k = c.read_lines-q.ensures in let d = c.end_line-n.ensures in (search rules, search rules, search rules, omega (arith, k.few, k.below, d.few))
 
 pub returns-then-at_end : goal.returns-then-at_end
-returns-then-at_end g c = ran-ended c.read_lines-q.ensures c.ended_by-why.ensures (at-end-was c.at_end.ensures c.if-at_end.true) c.end_line-n.ensures (search rules) c.whole_lines-last.ensures c.ended_by-how.ensures
+returns-then-at_end g c = ran-ended c.read_lines-q.ensures c.ended_by-why.ensures (at-end-was c.at_end.ensures c.if-at_end.true) c.end_line-n.ensures (search rules) c.whole_lines-last.ensures c.ended_by.ensures
 
 pub returns : goal.returns
 returns g c = ran-short c.read_lines-q.ensures c.ended_by-why.ensures (at-end-was c.at_end.ensures c.if-at_end.false)

@@ -1,4 +1,0 @@
-use Rattle.tool.proofs.asked.Given as goal
-
-abbrev pub decreases-loop-i : goal.decreases-loop-i
-decreases-loop-i g l = l.i
