@@ -78,7 +78,7 @@ pub fn decide(r: &Replica, m: &[u8], n: usize) -> Verdict
     let l = sort_to(r, m, n - 1);
     let others = l.others;
     let mut own = l.own;
-    let before = operation_run::run_all(own.all, own.n, r.cells);
+    let before = operation_run::run_all(&own.all[..own.n], r.cells);
     own.push(r.current);
     Verdict {
         aborted: conflict::conflict(r.cells, others.all, others.n, own.all, own.n),

@@ -71,8 +71,8 @@ pub fn client_said(o: Outcome) -> Said
 {
     match o {
         Outcome::Success(d) => event_said(d),
-        Outcome::Refused(why) => refusal_said(replica::refusal_number(why)),
-        Outcome::Halted(why) => halt_said(replica::halt_number(why)),
+        Outcome::Refused(why) => refusal_said(why.number()),
+        Outcome::Halted(why) => halt_said(why.number()),
     }
 }
 

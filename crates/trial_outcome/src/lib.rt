@@ -32,8 +32,8 @@ pub fn told_said(outcome: Outcome) -> LineWord
 {
     match outcome {
         Outcome::Success(event) => event_said(event),
-        Outcome::Refused(why) => LineWord::No(replica::refusal_number(why)),
-        Outcome::Halted(why) => LineWord::Halt(replica::halt_number(why)),
+        Outcome::Refused(why) => LineWord::No(why.number()),
+        Outcome::Halted(why) => LineWord::Halt(why.number()),
     }
 }
 
