@@ -5,6 +5,7 @@ ghost use Rattle.std.specs.Prelude.{◌≡◌, ◌<◌};
 ghost use Rattle.sha256_core.specs.Words.{Ch, Maj, Σ0, Σ1, σ0, σ1};
 ghost use Rattle.sha256_core.specs.Round.{round_at, add_state};
 
+// The eight working words, by value from round to round: the form that document 01 names.
 #[derive(Clone, Copy)]
 pub struct State {
     pub a: u32,
