@@ -4,7 +4,7 @@
 ghost use Rattle.std.specs.Prelude.{◌≡◌, ℕ, ◌+◌, ◌<◌, ◌≤◌, true, ◌↔◌, length};
 ghost use Rattle.conflict_marks.specs.Marks.{Has, Blank, Laid, Joined, moved_from, SameSpan};
 
-use operation::{Kind, Operation};
+use operation::Operation;
 
 // Lays 256 marks out in the middle of 768 places; those below and above stay unmarked. So the marks of the values
 // below x are those of the 256 places from x on, those from x on are those of the 256 places from 256 + x on, and
@@ -42,19 +42,22 @@ pub fn merge(into: &mut [bool; 256], wide: &[bool; 768], at: usize)
     }
 }
 
-// The place from which the operation moves a mark to 0; 256, where it moves none.
+// The place from which the operation moves a mark to 0; 256, where it moves none. (By numbers, as in `same_span`, for the
+// speed of the test.)
 pub fn moved_from(e: Operation, moves: bool) -> usize
     ensures { (result ≤ 512) × (result ≡ moved_from e «moves») }
 {
-    if !moves {
-        return 256;
-    }
     let a = e.amount as usize;
-    match Kind::of(e.kind) {
-        Some(Kind::Add) => 256 - a,
-        Some(Kind::Take) => 256 + a,
-        _ => 256,
+    if moves {
+        let adds = e.kind == 1;
+        if adds {
+            return 256 - a;
+        }
+        if e.kind == 2 {
+            return 256 + a;
+        }
     }
+    256
 }
 
 // Values from `lo` up to `hi`.
@@ -72,22 +75,21 @@ pub fn same_span(e: Operation, u: u8) -> Span
     let a = e.amount as usize;
     let v = u as usize;
     let only = Span { lo: v, hi: v + 1 };
-    match Kind::of(e.kind) {
-        Some(Kind::Add) => {
-            if v + a <= 255 {
-                Span { lo: 0, hi: 256 - a }
-            } else {
-                only
-            }
+    if e.kind == 1 {
+        if v + a <= 255 {
+            return Span { lo: 0, hi: 256 - a };
         }
-        Some(Kind::Take) => {
-            if a <= v {
-                Span { lo: a, hi: 256 }
-            } else {
-                only
-            }
-        }
-        Some(Kind::Read) => only,
-        _ => Span { lo: 0, hi: 256 },
+        return only;
     }
+    if e.kind == 2 {
+        if a <= v {
+            return Span { lo: a, hi: 256 };
+        }
+        return only;
+    }
+    let reads = e.kind == 3;
+    if reads {
+        return only;
+    }
+    Span { lo: 0, hi: 256 }
 }

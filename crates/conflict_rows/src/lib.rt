@@ -7,7 +7,7 @@ ghost use Rattle.conflict_marks.specs.Marks.{Has, Blank, is_set, is_read, Ran, O
 
 use operation::{Kind, Operation};
 
-// Whether the operation sets its cell. (By numbers, once for each row: a match on the kind makes the worst case a fifth slower.)
+// Whether the operation sets its cell. (By numbers, for the speed of the test.)
 fn is_set(e: Operation) -> bool
     ensures { result ≡ is_set e }
 {

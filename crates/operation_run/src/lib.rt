@@ -6,20 +6,26 @@ ghost use Rattle.operation.specs.Operation.{max_pending, signed, number_at, valu
 
 use operation::{Cells, Kind, Operation, Response};
 
-// What the operation's cell holds after it, where it held `v`.
-#[tactic(auto, unfolding(operation::specs::Operation::value))]
+// What the operation's cell holds after it, where it held `v`. (By numbers here, in `value_response` and in the marks of
+// the conflict test: with matches on the kind its slowest case takes some 8 in 100 more.)
 pub fn value_after(e: Operation, v: u8) -> u8
     ensures { result ≡ value e v }
 {
+    let kind = e.kind;
     let amount = e.amount;
-    let Some(kind) = Kind::of(e.kind) else {
-        return v;
-    };
-    match kind {
-        Kind::Add => v.checked_add(amount).unwrap_or(v),
-        Kind::Take => v.checked_sub(amount).unwrap_or(v),
-        Kind::Set | Kind::SetWithTemp => amount,
-        Kind::Read | Kind::ReadTemp => v,
+    let adds = kind == 1;
+    if adds {
+        if v as u32 + amount as u32 <= 255 {
+            v + amount
+        } else {
+            v
+        }
+    } else if kind == 2 {
+        if amount <= v { v - amount } else { v }
+    } else if (kind == 4) | (kind == 5) {
+        amount
+    } else {
+        v
     }
 }
 
@@ -42,25 +48,23 @@ fn failed_at(v: u8) -> u16
 }
 
 // What is answered by the value `v` of the operation's cell: the response of every kind but 6.
-#[tactic(auto, unfolding(operation::specs::Operation::value_response))]
 pub fn value_response(e: Operation, v: u8) -> u16
     ensures { result ≡ value_response e v }
 {
+    let kind = e.kind;
     let amount = e.amount;
-    let Some(kind) = Kind::of(e.kind) else {
-        return 1;
-    };
-    match kind {
-        Kind::Add => {
-            if v as u32 + amount as u32 <= 255 {
-                1
-            } else {
-                failed_at(v)
-            }
+    if kind == 1 {
+        if v as u32 + amount as u32 <= 255 {
+            1
+        } else {
+            failed_at(v)
         }
-        Kind::Take => { if amount <= v { 1 } else { failed_at(v) } }
-        Kind::Read => v as u16,
-        Kind::Set | Kind::SetWithTemp | Kind::ReadTemp => 1,
+    } else if kind == 2 {
+        if amount <= v { 1 } else { failed_at(v) }
+    } else if kind == 3 {
+        v as u16
+    } else {
+        1
     }
 }
 

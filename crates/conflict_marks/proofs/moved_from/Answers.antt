@@ -1,23 +1,17 @@
-use Rattle.std.proofs.Common.{◌≡◌, true, false, sym, arith, rules}
+use mathlib.Core.Path.{sym}
+use native.Mathlib.Omega.{arith}
 use Rattle.conflict_marks.proofs.ByKind.{from_add, from_take, from_none, from_other}
+use borrow.Author.Rules.{rules}
 use Rattle.conflict_marks.proofs.moved_from.Goals as goal
 
-pub returns-then-not-moves : goal.returns-then-not-moves
-returns-then-not-moves c =
-    let m : c.args.moves ≡ false = search rules in (omega arith, sym (rw m (from_none c.args.e)))
+pub returns-then-adds : goal.returns-then-adds
+returns-then-adds c = (omega arith, sym (rw c.if-moves.true (from_add c.args.e c.if-adds.true)))
 
-pub returns-in-Some-Add : goal.returns-in-Some-Add
-returns-in-Some-Add c =
-    let m : c.args.moves ≡ true = search rules in
-    let k : c.args.e.kind ≡ 1 = grind arith in (omega arith, sym (rw m (from_add c.args.e k)))
+pub returns-then-e-eq2 : goal.returns-then-e-eq2
+returns-then-e-eq2 c = (search rules, sym (rw c.if-moves.true (from_take c.args.e c.if-e-eq2.true)))
 
-pub returns-in-Some-Take : goal.returns-in-Some-Take
-returns-in-Some-Take c =
-    let m : c.args.moves ≡ true = search rules in
-    let k : c.args.e.kind ≡ 2 = grind arith in (search rules, sym (rw m (from_take c.args.e k)))
+pub returns-else-e-eq2 : goal.returns-else-e-eq2
+returns-else-e-eq2 c = (omega arith, sym (from_other c.args.e c.args.moves c.if-adds.false c.if-e-eq2.false))
 
-pub returns-in_default : goal.returns-in_default
-returns-in_default c = (omega arith, sym (from_other c.args.e c.args.moves (λ q. grind (arith, q)) (λ q. grind (arith, q))))
-
-pub returns-in_default-2 : goal.returns-in_default-2
-returns-in_default-2 c = (omega arith, sym (from_other c.args.e c.args.moves (λ q. grind (arith, q)) (λ q. grind (arith, q))))
+pub returns-else-moves : goal.returns-else-moves
+returns-else-moves c = (omega arith, sym (rw c.if-moves.false (from_none c.args.e)))
