@@ -1,8 +1,8 @@
--- Laws of taking a broadcast: the stages of its checks, what a success implies, and what each case comes to. Assumes nothing.
+-- Laws of taking a broadcast: what a success implies, and what each case comes to. Assumes nothing.
 use Prim.Native.Nat.{ℕ, ◌+◌, ◌<◌, ◌≤◌}
-use mathlib.Core.Path.{◌≡◌, refl, sym, ap, ◌∙◌}
+use mathlib.Core.Path.{◌≡◌, refl}
 use mathlib.Core.List.{List, [], ◌∷◌, ◌++◌}
-use mathlib.Core.Bool.{Bool, true, false, true≢false}
+use mathlib.Core.Bool.{true, false}
 use lib.Dec.{leb, eqb}
 use lib.ListN.{length}
 use native.Mathlib.Omega.{arith}
@@ -14,41 +14,11 @@ use Rattle.message.specs.Message.{is_broadcast, commit_of}
 use Rattle.message.proofs.Laws.{broadcast-length}
 use Rattle.verify.specs.Verify.{commit_tag_ok}
 use Rattle.replica.specs.declared.Replica.{Replica}
-use Rattle.replica.specs.Outcome.{is_stop, confirmed}
-use Rattle.checks.specs.Checks.{first_no}
-use Rattle.checks.proofs.Laws.{first_stays, all_yes, first_among, every_yes, and_yes}
+use Rattle.replica.specs.Outcome.{confirmed}
+use Rattle.checks.proofs.Laws.{all_yes, every_yes, and_yes}
 use Rattle.replica.specs.Replica.{stop, in_range}
 use Rattle.message.specs.Content.{commit_ok}
 use Rattle.client_broadcast.specs.Broadcast.{next_value, digest_ok, form_checks, content_checks, proof_checks, broadcast_no, confirmed_replica, broadcast_step}
-
--- ---- the stages of the checks
-module _ (r : Replica) (m : List ℕ) where
-  abbrev k : Commit
-  k = commit_of m
-
-  abbrev rest : List (Bool × ℕ)
-  rest = content_checks r k ++ proof_checks r k
-
-  pub form_stops : eqb (first_no 0 (form_checks r m)) 0 ≡ false → first_no 0 (form_checks r m) ≡ broadcast_no r m
-  unfolding broadcast_no
-  form_stops e = sym (first_stays (first_no 0 (form_checks r m)) rest e)
-
-  pub content_stops : first_no 0 (form_checks r m) ≡ 0 → eqb (first_no 0 (content_checks r k)) 0 ≡ false → first_no 0 (content_checks r k) ≡ broadcast_no r m
-  unfolding broadcast_no
-  content_stops e f = sym (ap (λ (n : ℕ). first_no n rest) e ∙ first_stays (first_no 0 (content_checks r k)) (proof_checks r k) f)
-
-  pub proof_decides : first_no 0 (form_checks r m) ≡ 0 → first_no 0 (content_checks r k) ≡ 0 → first_no 0 (proof_checks r k) ≡ broadcast_no r m
-  unfolding broadcast_no
-  proof_decides e f = sym (ap (λ (n : ℕ). first_no n rest) e ∙ ap (λ (n : ℕ). first_no n (proof_checks r k)) f)
-
-  -- a no has one of the numbers of a client's checks
-  pub broadcast_stop : eqb (broadcast_no r m) 0 ≡ false → is_stop (broadcast_no r m) ≡ true
-  unfolding broadcast_no
-  broadcast_stop e =
-      first_among is_stop 0 (form_checks r m ++ rest) (λ z. absurd (true≢false z)) (refl, (refl, (refl, (refl, (refl, (refl, (refl, tt))))))) e
-
-  pub form_long : first_no 0 (form_checks r m) ≡ 0 → length m ≡ 80
-  form_long e = broadcast-length m (all_yes 0 (form_checks r m) (refl, (refl, (refl, tt))) e).1.1.1.0
 
 -- what an allowed commit has
 pub record Allowed (k : Commit) : Type 0 where
@@ -62,11 +32,6 @@ unfolding commit_ok
 commit_allowed k e =
     let z = (every_yes true (op_ok k.op ∷ leb 1 k.author ∷ leb k.author 8 ∷ leb k.status 1 ∷ []) e).1 in
     record { op = z.0; low = leb-true _ _ z.1.0; high = leb-true _ _ z.1.1.0; status = leb-true _ _ z.1.1.1.0 }
-
-pub content_author : (r : Replica) (k : Commit) → first_no 0 (content_checks r k) ≡ 0 → (1 ≤ k.author) × (k.author ≤ 8)
-content_author r k e =
-    let a = commit_allowed k (all_yes 0 (content_checks r k) (refl, (refl, tt)) e).1.0 in
-    (a.low, a.high)
 
 -- a digest that passes check 23 is the next chain value
 pub next_is : (r : Replica) (k : Commit) → digest_ok r k ≡ true → k.digest ≡ next_value r k

@@ -2,7 +2,7 @@
 use Prim.Native.Nat.{ℕ, ◌+◌, ◌<◌, ◌≤◌}
 use mathlib.Core.Path.{◌≡◌, refl}
 use mathlib.Core.List.{List, ◌++◌}
-use mathlib.Core.Bool.{true, false, true≢false}
+use mathlib.Core.Bool.{true, false}
 use lib.Dec.{eqb}
 use lib.ListN.{length, drop}
 use borrow.Author.Tests.{leb-true, ltb-true, eqb-true}
@@ -12,9 +12,9 @@ use Rattle.operation.specs.Operation.{allowed, op_bytes}
 use Rattle.message.specs.Message.{invoke_string, invoke_bytes}
 use Rattle.verify.proofs.Laws.{invoke-tag-length}
 use Rattle.replica.specs.declared.Replica.{Replica}
-use Rattle.replica.specs.Outcome.{is_stop, invoked}
+use Rattle.replica.specs.Outcome.{invoked}
 use Rattle.replica.specs.Replica.{Step, over, stop, in_range, no_current}
-use Rattle.checks.proofs.Laws.{all_yes, first_among}
+use Rattle.checks.proofs.Laws.{all_yes}
 use Rattle.client_invoke.specs.Invoke.{invoke_checks, invoke_no, new_op, invoked_replica, invoke_message, invoke_step}
 
 -- what a successful invoke implies
@@ -38,12 +38,6 @@ invoke_yes r kind cell amount last room e =
       below = ltb-true _ _ y.1.1.1.1.0;
       enough = leb-true _ _ y.1.1.1.1.1.0;
     }
-
--- a no has one of the numbers of a client's checks
-pub invoke_stop : (r : Replica) (kind cell amount last room : ℕ) → eqb (invoke_no r kind cell amount last room) 0 ≡ false → is_stop (invoke_no r kind cell amount last room) ≡ true
-unfolding invoke_no
-invoke_stop r kind cell amount last room e =
-    first_among is_stop 0 (invoke_checks r kind cell amount last room) (λ z. absurd (true≢false z)) (refl, (refl, (refl, (refl, (refl, (refl, tt)))))) e
 
 -- the message is 43 bytes long
 pub invoke_length_lem : (r : Replica) (e : Operation) → length (invoke_message r e) ≡ 43

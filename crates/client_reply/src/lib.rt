@@ -75,10 +75,8 @@ pub fn decide(r: &Replica, m: &[u8], n: usize) -> Verdict
     requires { (n ≡ reply_count m.now) × (1 ≤ n) × (n ≤ max_pending) × (reply_head + n * item_length ≤ length m.now) }
     ensures { (result.aborted ≡ is_aborted r.now m.now) × (result.response ≡ last_response r.now m.now) }
 {
-    let l = sort_to(r, m, n - 1);
-    let others = l.others;
-    let mut own = l.own;
-    let before = operation_run::run_all(&own.all[..own.n], r.cells);
+    let Lists { others, mut own } = sort_to(r, m, n - 1);
+    let before = operation_run::run_all(own.all, own.n, r.cells);
     own.push(r.current);
     Verdict {
         aborted: conflict::conflict(r.cells, others.all, others.n, own.all, own.n),

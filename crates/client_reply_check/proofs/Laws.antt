@@ -2,7 +2,7 @@
 use Prim.Native.Nat.{ℕ, zero, suc, ◌+◌, ◌-◌, ◌*◌, ◌<◌, ◌≤◌}
 use mathlib.Core.Path.{◌≡◌, refl, sym, ap, ◌∙◌}
 use mathlib.Core.List.{List, [], ◌∷◌, ◌++◌}
-use mathlib.Core.Bool.{Bool, true, false, ◌&&◌, true≢false}
+use mathlib.Core.Bool.{Bool, true, false, ◌&&◌}
 use lib.Dec.{leb, eqb}
 use lib.ListN.{length}
 use native.Mathlib.Omega.{arith}
@@ -14,8 +14,7 @@ use Rattle.message.specs.Message.{is_reply, reply_count, reply_item}
 use Rattle.message.proofs.Laws.{reply-length, reply_count_lem}
 use Rattle.replica.specs.declared.Replica.{Replica}
 use Rattle.checks.specs.Checks.{first_no, also_no}
-use Rattle.checks.proofs.Laws.{first_stays, first_append, first_zero, all_yes, Among, among_append, first_among, every_yes}
-use Rattle.replica.specs.Outcome.{is_stop}
+use Rattle.checks.proofs.Laws.{first_stays, first_append, first_zero, all_yes, every_yes}
 use Rattle.replica.specs.Replica.{in_range}
 use Rattle.replica.proofs.Laws.{ranged}
 use Rattle.client_reply_check.specs.ReplyChecks.{seq_at, listed_ok, item_checks, items_checks, last_item, last_ok, reply_form_checks, last_checks, reply_no}
@@ -140,18 +139,6 @@ module _ (r : Replica) (m : List ℕ) (room : ℕ) where
   last_passed e =
       let n = first_no 0 (reply_form_checks r m room) in
       (all_yes (first_no n (items_checks r m (reply_count m))) (last_checks r m) (refl, tt) (sym (first_append n (items_checks r m (reply_count m)) (last_checks r m)) ∙ e)).1.0
-
--- a no has one of the numbers of a client's checks
-items_among : (r : Replica) (m : List ℕ) (n : ℕ) → Among is_stop (items_checks r m n)
-unfolding items_checks
-items_among r m zero = tt
-items_among r m (suc k) = among_append is_stop (items_checks r m k) (item_checks r (reply_count m) k (reply_item m k)) (items_among r m k) (refl, (refl, (refl, (refl, tt))))
-
-pub reply_stop : (r : Replica) (m : List ℕ) (room : ℕ) → eqb (reply_no r m room) 0 ≡ false → is_stop (reply_no r m room) ≡ true
-unfolding reply_no
-reply_stop r m room e =
-    let l = among_append is_stop (items_checks r m (reply_count m)) (last_checks r m) (items_among r m (reply_count m)) (refl, tt) in
-    first_among is_stop 0 (reply_form_checks r m room ++ rest r m) (λ z. absurd (true≢false z)) (refl, (refl, (refl, (refl, l)))) e
 
 -- what the last check settles
 pub record Last (r : Replica) (m : List ℕ) : Type 0 where

@@ -24,10 +24,10 @@ pub extern "C" fn cop_open(number: u8, keys: &[u8]) -> Opened
     ensures { (result.replica ≡ (open_step number keys.now).replica) × (result.said ≡ said (open_step number keys.now).says) }
 {
     let s = client::open(number, keys);
-    let replica = s.replica;
-    let outcome = s.outcome;
-    let said = cop_said::client_said(outcome);
-    Opened { replica, said }
+    Opened {
+        replica: s.replica,
+        said: cop_said::client_said(s.outcome),
+    }
 }
 
 // A fresh server.

@@ -8,7 +8,7 @@ use lib.ListN.{length}
 use borrow.Author.Tests.{leb-true, le-leb, lt-leb}
 use Rattle.checks.proofs.Laws.{and_yes, cond_cases, every_yes}
 use Rattle.operation.specs.Operation.{op_ok, temps_ok}
-use Rattle.replica.specs.Outcome.{Told, refused, halted, is_halt, is_stop}
+use Rattle.replica.specs.Outcome.{Told, refused, halted, is_halt}
 use Rattle.replica.specs.Places.{statuses_ok, unused_statuses, unused_values}
 use Rattle.replica.specs.Replica.{no_current, numbers_ok, arrays_ok, in_range, After, refuse, halted_at, halt, stop}
 use Rattle.replica.specs.declared.Replica.{Replica}
@@ -16,12 +16,6 @@ use Rattle.replica.specs.declared.Replica.{Replica}
 -- ---- numbers
 pub halt_bounds : (n : ℕ) → is_halt n ≡ true → (20 ≤ n) × (n ≤ 26)
 halt_bounds n e = let h = and_yes (leb 20 n) (leb n 26) e in (leb-true _ _ h.0, leb-true _ _ h.1)
-
-pub refusal_bounds : (n : ℕ) → is_stop n ≡ true → is_halt n ≡ false → (1 ≤ n) × (n ≤ 8)
-refusal_bounds n e f =
-    let g : (leb 1 n && leb n 8) ≡ true = rw f at e in
-    let h = and_yes (leb 1 n) (leb n 8) g in
-    (leb-true _ _ h.0, leb-true _ _ h.1)
 
 -- ---- check 8
 -- what a replica in range has

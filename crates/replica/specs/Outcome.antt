@@ -52,12 +52,9 @@ abbrev pub no_of : {A : Type 0} → Result A Stop → ℕ
 no_of (Ok a) = 0
 no_of (Err s) = stop_no s
 
--- which numbers are halts: said here alone (proofs/Once.antt: they are those of the enum); and which a client's checks have
+-- which numbers are halts: said here alone (proofs/Once.antt: they are those of the enum)
 abbrev pub is_halt : ℕ → Bool
 is_halt n = leb 20 n && leb n 26
-
-abbrev pub is_stop : ℕ → Bool
-is_stop n = is_halt n || (leb 1 n && leb n 8)
 
 -- "A made entry brings its own count"; "An answer and "aside" bring their place; a confirmation brings place and status."
 abbrev pub event_told : Event → Told

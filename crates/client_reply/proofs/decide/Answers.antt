@@ -9,7 +9,7 @@ pub returns : goal.returns
 returns c =
     let a = c.args in
     let e = c.requires.0 in
-    let s = c.sort_to-l in (
+    let s = c.sort_to in (
       c.conflict.ensures ∙ rw c.push.ensures.0 (aborted_is a.r.now a.m.now a.n e (lists s.result) s.ensures.0),
       to_z-of_z {w = w16} {z = c.response_on.result} (record { sfits = c.response_on.type_inv })
           ∙ c.response_on.ensures
