@@ -41,7 +41,11 @@ pub fn told_said(outcome: Outcome) -> LineWord
 pub fn is_success(outcome: Outcome) -> bool
     ensures { result ≡ is_success (O.told outcome) }
 {
-    matches!(outcome, Outcome::Success(_))
+    match outcome {
+        Outcome::Success(_) => true,
+        Outcome::Refused(_) => false,
+        Outcome::Halted(_) => false,
+    }
 }
 
 // What the server's outcome prints.
@@ -59,7 +63,11 @@ pub fn served_said(outcome: ServerOutcome) -> LineWord
 pub fn is_placed(outcome: ServerOutcome) -> bool
     ensures { result ≡ is_placed (S.told outcome) }
 {
-    matches!(outcome, Ok(ServerEvent::Placed(_)))
+    match outcome {
+        Ok(ServerEvent::Placed(_)) => true,
+        Ok(ServerEvent::Broadcast(_)) => false,
+        Err(_) => false,
+    }
 }
 
 // How many broadcasts the server wrote.
@@ -67,7 +75,8 @@ pub fn broadcast_count(outcome: ServerOutcome) -> u32
     ensures { result ≡ broadcast_count (S.told outcome) }
 {
     match outcome {
+        Ok(ServerEvent::Placed(_)) => 0,
         Ok(ServerEvent::Broadcast(n)) => n,
-        Ok(ServerEvent::Placed(_)) | Err(_) => 0,
+        Err(_) => 0,
     }
 }
