@@ -94,8 +94,7 @@ fn receive(s: Server, line: &[u8], out: &mut [u8]) -> Served {
 }
 
 // The call with the first bytes lent, as many as the line says.
-fn receive_in(s: Server, line: &[u8], out: &mut [u8; 4096]) -> Served
-{
+fn receive_in(s: Server, line: &[u8], out: &mut [u8; 4096]) -> Served {
     let room = call_lines::number_at(line, 4, 4096) as usize;
     receive(s, line, &mut out[..room])
 }
@@ -133,7 +132,11 @@ fn main(rt: HostRuntime) {
     let mut text = call_lines::text_buffer();
     let n = call_lines::read_full(&mut rt.stdin(), &mut text);
     for line in text[..n].split_inclusive(|b| *b == b'\n') {
-        one(&rt, &mut states, line.strip_suffix(b"\n".as_slice()).unwrap_or(line));
+        one(
+            &rt,
+            &mut states,
+            line.strip_suffix(b"\n".as_slice()).unwrap_or(line),
+        );
         call_lines::print_end(&rt);
     }
 }

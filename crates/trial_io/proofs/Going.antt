@@ -56,6 +56,10 @@ limit-stops : goes_on B.Limit ≡ false
 unfolding goes_on
 limit-stops = refl
 
+pub not_flip : (x y : Bool) → x ≡ not y → y ≡ not x
+not_flip x true e = sym (ap not e)
+not_flip x false e = sym (ap not e)
+
 both_false : (x y : Bool) → x && y ≡ false → y ≡ true → x ≡ false
 both_false true true e f = e
 both_false true false e f = absurd (true≢false (sym f))
@@ -104,13 +108,14 @@ module _
   going_fits = omega (arith, k.few, d.counted, d.behind, total-below d k.below)
 
   pub going_more :
-      {t' : Trial} {b' : Lent} {buf' : List ℕ} {number' : ℕ} {s' : Sent} {held' : ℕ} {g : Bool} →
+      {t' : Trial} {b' : Lent} {buf' : List ℕ} {number' : ℕ} {s' : Sent} {held' : ℕ} {g o : Bool} →
       length x ≡ length buf →
       Whole t b x number s r.count t' b' buf' number' s' held' →
       length buf' ≡ length x →
       g ≡ goes_on r.brought →
-      Going t' b' number' held' s' r.total r.brought (g && is_none s'.failed) buf'
-  going_more {s' = s'} {g = g} l w l' e =
+      o ≡ is_none s'.failed →
+      Going t' b' number' held' s' r.total r.brought (g && o) buf'
+  going_more {s' = s'} {g = g} {o = o} l w l' e y =
       let n = came_length d l in
       let z : length x ≡ 65536 = l ∙ k.size in
       let input = k.by.input in
@@ -124,7 +129,7 @@ module _
         size = l' ∙ z;
         few = omega (arith, w.few, k.few, d.counted, d.behind);
         below = total-below d k.below;
-        stops = λ f o. sym e ∙ both_false g (is_none s'.failed) f (ap not o);
+        stops = λ f i. sym e ∙ both_false g o f (y ∙ ap not i);
         limit = λ f.
             let q : goes_on r.brought ≡ false = ap goes_on f ∙ limit-stops in
             omega (arith, d.limit f, k.size, same_total d q);

@@ -9,7 +9,7 @@ at-end-was : {a b c : Bool} → a ≡ b → a ≡ c → b ≡ c
 at-end-was e f = sym e ∙ f
 
 pub read_lines-q-requires : goal.read_lines-q-requires
-read_lines-q-requires g c = (search rules, search rules, lent-start _ _ _ c.zero_log-log.ensures c.zero_replies-replies.ensures c.zero_invokes-invokes.ensures)
+read_lines-q-requires g c = (search rules, search rules, lent-start _ _ _ (search rules) (search rules) (search rules))
 
 pub end_line-n-requires : goal.end_line-n-requires
 end_line-n-requires g c = c.read_lines-q.ensures.room
