@@ -1,5 +1,6 @@
 // The fields of a line (document 02, Q-5). Definitions: specs/Places.antt. A `text` is cut at its first line feed; a line `s` is one that
-// is cut already. A field is a part of what the caller lent: nothing is copied.
+// is cut already. A field is a part of what the caller lent: nothing is copied. A walk goes from separator to separator, by no step of one:
+// a `loop`, and no `for` over an index.
 #![tactic(auto)]
 
 ghost use Rattle.std.specs.Prelude.{◌≡◌};
@@ -38,14 +39,12 @@ fn start_in(s: &[u8], k: usize) -> usize
     ensures { StartsAt s.now k result }
 {
     let mut a = 0;
-    let mut j = 0;
-    while j < k {
+    for _j in 0..k {
         let f = log_quotes::field_end(s, a);
         if f.end == s.len() {
             return f.end;
         }
         a = f.end + 1;
-        j += 1;
     }
     a
 }

@@ -1,6 +1,6 @@
 // A name among the fields of a line (document 02, Q-5). Definitions: specs/Names.antt. An inner step of `log_columns`: the line `s` is cut
 // already and is taken as it is, sound or not (of an unsound line all from its first unsound field on is the last field). The caller
-// asks for soundness beside it.
+// asks for soundness beside it. A walk goes from separator to separator, by no step of one: a `loop`, and no `for` over an index.
 #![tactic(auto)]
 
 ghost use Rattle.std.specs.Prelude.{◌≡◌, cond};

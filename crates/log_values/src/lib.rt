@@ -16,7 +16,7 @@ pub struct Values {
     pub last: Option<u8>,
 }
 
-// The values of the line `s` under these columns, in one walk, where it is sound.
+// The values of the line `s` under these columns, in one walk from separator to separator, where it is sound.
 pub fn values_in(c: Columns, s: &[u8]) -> Option<Values>
     ensures { result ≡ values_of c s.now }
 {

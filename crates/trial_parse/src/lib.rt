@@ -7,7 +7,8 @@ ghost use Rattle.trial_parse.specs.Parse.{parse};
 
 use trial_words::Command;
 
-// What a line, without its line feed, asks.
+// What a line, without its line feed, asks. By an iterator of words it would be six `next`s and a match on six Options, so it is five
+// finds, each of which tells how many words there are.
 pub fn parse(line: &[u8]) -> Command
     ensures { asked result ≡ parse line.now }
 {

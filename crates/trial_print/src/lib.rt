@@ -1,4 +1,4 @@
-// A line of the trial program's output written. Definition: specs/Line.antt.
+// A line of the trial program's output written, with no heap: into the caller's buffer from `at` on. Definition: specs/Line.antt.
 #![tactic(auto)]
 
 ghost use Rattle.std.specs.Prelude.{◌≡◌, ◌+◌, ◌≤◌, length};

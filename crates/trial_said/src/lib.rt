@@ -22,7 +22,7 @@ pub enum LineWord {
     Full,
 }
 
-// ---- each function writes from `at` on, and answers the place after it
+// ---- with no heap, each function writes into the caller's buffer from `at` on, and answers the place after it
 
 // A word with one number.
 fn put_one(out: &mut [u8], at: usize, s: &[u8], n: u32) -> usize
