@@ -76,7 +76,7 @@ pub fn decide(r: &Replica, m: &[u8], n: usize) -> Verdict
     ensures { (result.aborted ≡ is_aborted r.now m.now) × (result.response ≡ last_response r.now m.now) }
 {
     let Lists { others, mut own } = sort_to(r, m, n - 1);
-    let before = operation_run::run_all(own.all, own.n, r.cells);
+    let before = operation_run::run_all(&own.all[..own.n], r.cells);
     own.push(r.current);
     Verdict {
         aborted: conflict::conflict(r.cells, others.all, others.n, own.all, own.n),
