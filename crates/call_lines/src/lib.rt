@@ -37,7 +37,7 @@ pub fn nth_word(line: &[u8], k: usize) -> &[u8] {
 pub fn number_at(line: &[u8], k: usize, cap: u32) -> u32
     ensures { result ≤ cap }
 {
-    text::number(nth_word(line, k), cap)
+    text::number(nth_word(line, k), cap).unwrap_or(cap)
 }
 
 pub fn byte_at(line: &[u8], k: usize) -> u8 {

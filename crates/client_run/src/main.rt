@@ -48,16 +48,8 @@ fn print_event<R: Print>(rt: &R, event: Event) {
 fn print_outcome<R: Print>(rt: &R, outcome: Outcome) {
     match outcome {
         Outcome::Success(event) => print_event(rt, event),
-        Outcome::Refused(why) => call_lines::print_one(
-            rt,
-            b"no",
-            replica::refusal_number(why) as u64,
-        ),
-        Outcome::Halted(why) => call_lines::print_one(
-            rt,
-            b"halt",
-            replica::halt_number(why) as u64,
-        ),
+        Outcome::Refused(why) => call_lines::print_one(rt, b"no", why.number() as u64),
+        Outcome::Halted(why) => call_lines::print_one(rt, b"halt", why.number() as u64),
     }
 }
 

@@ -27,12 +27,8 @@ fn print_event<R: Print>(rt: &R, event: ServerEvent) {
 
 fn print_outcome<R: Print>(rt: &R, outcome: ServerOutcome) {
     match outcome {
-        ServerOutcome::Success(event) => print_event(rt, event),
-        ServerOutcome::Refused(why) => call_lines::print_one(
-            rt,
-            b"no",
-            server::refusal_number(why) as u64,
-        ),
+        Ok(event) => print_event(rt, event),
+        Err(why) => call_lines::print_one(rt, b"no", why.number() as u64),
     }
 }
 

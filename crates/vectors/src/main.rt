@@ -3,8 +3,7 @@
 
 ghost use Rattle.std.specs.Prelude.{◌≡◌, ◌≤◌, length};
 
-use hmac::Tagged;
-use sha256::Digested;
+use sha256::TooLong;
 
 // Puts the first n bytes there again and again, up to `total`.
 fn repeat(out: &mut [u8], n: usize, total: usize)
@@ -43,8 +42,8 @@ fn digest_case<R: Print>(rt: &R, line: &[u8]) {
     let n = spelled(line, 3, &mut m);
     let mut out = [0u8; 32];
     match sha256::digest(&m[0..n], &mut out) {
-        Digested::Done => show(rt, line, &out),
-        Digested::TooLong => show_refused(rt, line),
+        Ok(()) => show(rt, line, &out),
+        Err(TooLong) => show_refused(rt, line),
     }
 }
 
@@ -55,8 +54,8 @@ fn tag_case<R: Print>(rt: &R, line: &[u8]) {
     let n = spelled(line, 5, &mut m);
     let mut out = [0u8; 32];
     match hmac::tag(&k[0..kn], &m[0..n], &mut out) {
-        Tagged::Done => show(rt, line, &out),
-        Tagged::TooLong => show_refused(rt, line),
+        Ok(()) => show(rt, line, &out),
+        Err(TooLong) => show_refused(rt, line),
     }
 }
 
