@@ -4,12 +4,11 @@
 #![tactic(auto)]
 
 ghost use Rattle.std.specs.Prelude.{◌+◌, ◌≤◌, ◌<◌, ◌^◌, length};
-ghost use Rattle.trial_core.specs.Moves.{lent_of};
 ghost use Rattle.trial_buffer.specs.Whole.{Whole};
 
 use output::Sent;
 use std::io::Write;
-use trial_core::Trial;
+use trial_core::{Lent, Trial};
 
 // After the lines of the buffer: the trial, how many lines there were, how many bytes are held that are not yet a line, and what was sent.
 #[derive(Clone, Copy)]
@@ -30,13 +29,11 @@ pub fn whole_lines<W: Write>(
     n: usize,
     buf: &mut [u8],
     out: &mut [u8],
-    log: &mut [u8; trial_core::LOG_LENGTH],
-    replies: &mut [u8; trial_core::REPLIES_LENGTH],
-    invokes: &mut [u8; trial_core::INVOKES_LENGTH],
+    lent: &mut Lent,
 ) -> After
     requires { (n ≤ length buf.old) × (1 < length buf.old) × (64 ≤ length out.old) × (first + n < 2 ^ 64) }
-    ensures { Whole start (lent_of log.old replies.old invokes.old) buf.old first before n
-        result.trial (lent_of log.new replies.new invokes.new) buf.new result.number result.sent result.held }
+    ensures { Whole start lent.old buf.old first before n
+        result.trial lent.new buf.new result.number result.sent result.held }
 {
     let mut trial = start;
     let mut number = first;
@@ -44,7 +41,7 @@ pub fn whole_lines<W: Write>(
     let mut at = 0;
     let mut used = 1;
     while used != 0 {
-        let q = trial_lines::answers(trial, number, &buf[at..n], out, log, replies, invokes);
+        let q = trial_lines::answers(trial, number, &buf[at..n], out, lent);
         trial = q.trial;
         number += q.count;
         used = q.used;

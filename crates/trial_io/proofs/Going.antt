@@ -140,10 +140,6 @@ going_ends k e =
     record { by = k.by; room = k.room; few = k.few; below = k.below; stops = k.stops e; limit = k.limit }
 
 -- ---- the answer
-pub lent-start : (log replies invokes : List ℕ) → log ≡ replicate log_length 0 → replies ≡ replicate replies_length 0 → invokes ≡ replicate invokes_length 0 → lent_of log replies invokes ≡ start_lent
-unfolding start_lent
-lent-start log replies invokes a b c = cc
-
 absurd_why : {A : Type 0} (w : Why) → w ≡ W.Ended → at_end w ≡ false → A
 unfolding at_end
 absurd_why w e f = absurd (true≢false (sym (ap at_end e) ∙ f))

@@ -4,7 +4,6 @@
 #![tactic(auto)]
 
 ghost use Rattle.std.specs.Prelude.{◌≡◌, ◌+◌, ◌≤◌, ◌<◌, ◌^◌, length, take, replicate};
-ghost use Rattle.trial_core.specs.Moves.{lent_of};
 ghost use Rattle.trial_core.specs.Trial.{start_lent};
 ghost use Rattle.trial_core.specs.Sizes.{log_length, replies_length, invokes_length};
 ghost use Rattle.trial_io.specs.Reached.{ReadTo, Ran, at_end};
@@ -13,6 +12,7 @@ use input::Brought;
 use std::io::{Read, Write};
 use tool::{Done, Why};
 use trial_buffer::After;
+use trial_core::Lent;
 
 // After the reads: what the lines left, how many bytes were read, and what the last read brought.
 #[derive(Clone, Copy)]
@@ -29,12 +29,10 @@ fn read_lines<R: Read, W: Write>(
     writer: &mut W,
     buf: &mut [u8],
     out: &mut [u8],
-    log: &mut [u8; trial_core::LOG_LENGTH],
-    replies: &mut [u8; trial_core::REPLIES_LENGTH],
-    invokes: &mut [u8; trial_core::INVOKES_LENGTH],
+    lent: &mut Lent,
 ) -> Reading
-    requires { (length buf.old ≡ 65536) × (64 ≤ length out.old) × (lent_of log.old replies.old invokes.old ≡ start_lent) }
-    ensures { ReadTo result (lent_of log.new replies.new invokes.new) buf.new }
+    requires { (length buf.old ≡ 65536) × (64 ≤ length out.old) × (lent.old ≡ start_lent) }
+    ensures { ReadTo result lent.new buf.new }
 {
     let mut after = After {
         trial: trial_start::start(),
@@ -57,9 +55,7 @@ fn read_lines<R: Read, W: Write>(
             got.count,
             buf,
             out,
-            log,
-            replies,
-            invokes,
+            lent,
         );
         going = brought.goes_on() & after.sent.failed.is_none();
     }
@@ -84,18 +80,8 @@ pub fn run<R: Read, W: Write>(reader: &mut R, writer: &mut W) -> Done
 {
     let mut buf = [0u8; 65536];
     let mut out = [0u8; 65536];
-    let mut log = [0u8; trial_core::LOG_LENGTH];
-    let mut replies = [0u8; trial_core::REPLIES_LENGTH];
-    let mut invokes = [0u8; trial_core::INVOKES_LENGTH];
-    let q = read_lines(
-        reader,
-        writer,
-        &mut buf,
-        &mut out,
-        &mut log,
-        &mut replies,
-        &mut invokes,
-    );
+    let mut lent = trial_start::fresh_lent();
+    let q = read_lines(reader, writer, &mut buf, &mut out, &mut lent);
     let why = tool::ended_by(q.brought, q.after.sent.failed);
     if at_end(why) {
         let n = trial_bytes::end_line(&mut buf, q.after.held);
@@ -107,9 +93,7 @@ pub fn run<R: Read, W: Write>(reader: &mut R, writer: &mut W) -> Done
             n,
             &mut buf,
             &mut out,
-            &mut log,
-            &mut replies,
-            &mut invokes,
+            &mut lent,
         );
         return Done {
             total: q.total,

@@ -2,14 +2,14 @@ use mathlib.Core.Path.{◌≡◌, sym, ◌∙◌}
 use mathlib.Core.Bool.{Bool}
 use native.Mathlib.Omega.{arith}
 use borrow.Author.Rules.{rules}
-use Rattle.trial_io.proofs.Going.{lent-start, ran-short, ran-ended}
+use Rattle.trial_io.proofs.Going.{ran-short, ran-ended}
 use Rattle.trial_io.proofs.run.Goals as goal
 
 at-end-was : {a b c : Bool} → a ≡ b → a ≡ c → b ≡ c
 at-end-was e f = sym e ∙ f
 
 pub read_lines-q-requires : goal.read_lines-q-requires
-read_lines-q-requires g c = (search rules, search rules, lent-start _ _ _ (search rules) (search rules) (search rules))
+read_lines-q-requires g c = (search rules, search rules, c.fresh_lent-lent.ensures)
 
 pub end_line-n-requires : goal.end_line-n-requires
 end_line-n-requires g c = c.read_lines-q.ensures.room
