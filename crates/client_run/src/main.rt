@@ -27,7 +27,7 @@ fn print_answer<R: Print>(rt: &R, seq: u32, response: Response) {
     } else {
         call_lines::print(rt, b" ");
     }
-    call_lines::print_decimal(rt, text::magnitude(response) as u64);
+    call_lines::print_decimal(rt, response.unsigned_abs() as u64);
 }
 
 fn print_event<R: Print>(rt: &R, event: Event) {
