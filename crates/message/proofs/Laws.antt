@@ -4,10 +4,9 @@ use mathlib.Core.Path.{◌≡◌, refl, sym, ap, ◌∙◌}
 use mathlib.Core.List.{List, [], ◌∷◌, ◌++◌, append-nil, append_assoc}
 use mathlib.Core.Bool.{true, ◌&&◌}
 use lib.Dec.{leb, eqb}
-use lib.ListN.{length, take, drop, replicate, length-append, length-take, take-append-drop}
-use lib.Seq.{take-append_seam, drop-append-add, drop-drop, take_at, drop_at}
+use lib.ListN.{length, take, drop, length-append, length-take, take-append-drop}
+use lib.Seq.{take_at, drop_at}
 use native.Mathlib.Omega.{arith}
-use borrow.Author.Rules.{rules}
 use borrow.Author.Tests.{leb-true, eqb-true}
 use Rattle.slices.specs.Bytes.{put, big_endian}
 use Rattle.operation.specs.declared.Operation.{Operation}
@@ -18,37 +17,6 @@ use Rattle.message.specs.declared.Commit.{Commit}
 use Rattle.message.specs.Layout.{invoke_mark, reply_mark, commit_mark, broadcast_mark, digest_at}
 use Rattle.message.specs.Readers.{ItemsFit, none, more}
 use Rattle.message.specs.Message.{invoke_string, commit_string, chain_string, item_bytes, items_bytes, commit_fields, invoke_bytes, reply_bytes, commit_bytes, broadcast_bytes, marked, is_invoke, is_reply, is_commit, is_broadcast, reply_count}
-
--- ---- parts written one after the other
-pub put_next : (p z s : List ℕ) (n k : ℕ) → length p ≡ n → n + length s ≡ k → put (p ++ drop n z) n s ≡ p ++ s ++ drop k z
-put_next p z s n k e h = rw (← h, ← e, take-append_seam p (drop (length p) z), drop-append-add p (drop (length p) z) (length s), drop-drop)
-
-module _ (z A B : List ℕ) (at a b : ℕ) (l : at ≤ length z) (ha : at + length A ≡ a) (hb : a + length B ≡ b) where
-  pub two_parts : put (put z at A) a B ≡ take at z ++ A ++ B ++ drop b z
-  two_parts = rw ha (put_next (take at z ++ A) z B a b (simp (length-append, length-take) (omega arith)) hb)
-
-  pub three_parts : (C : List ℕ) (c : ℕ) → b + length C ≡ c → put (put (put z at A) a B) b C ≡ take at z ++ A ++ B ++ C ++ drop c z
-  three_parts C c hc = rw two_parts (put_next (take at z ++ A ++ B) z C b c (simp (length-append, length-take) (omega arith)) hc)
-
-  pub four_parts : (C D : List ℕ) (c d : ℕ) → b + length C ≡ c → c + length D ≡ d
-      → put (put (put (put z at A) a B) b C) c D ≡ take at z ++ A ++ B ++ C ++ D ++ drop d z
-  four_parts C D c d hc hd = rw (three_parts C c hc) (put_next (take at z ++ A ++ B ++ C) z D c d (simp (length-append, length-take) (omega arith)) hd)
-
-pub front_parts : (a b : ℕ) (e : Operation) (author seq : ℕ) (digest : List ℕ) (status : ℕ) → length digest ≡ 32
-    → put (put (put (put (replicate 48 0) 0 (a ∷ b ∷ op_bytes e ++ (author ∷ []))) 11 (big_endian 4 seq)) 15 digest) 47 (status ∷ [])
-    ≡ a ∷ b ∷ op_bytes e ++ (author ∷ big_endian 4 seq) ++ digest ++ (status ∷ [])
-unfolding op_bytes big_endian
-front_parts a b e author seq digest status h =
-    four_parts (replicate 48 0) (a ∷ b ∷ op_bytes e ++ (author ∷ [])) (big_endian 4 seq) 0 11 15 (search rules) refl refl digest (status ∷ []) 47 48 (omega arith) refl
-    ∙ append-nil _
-
-pub chain_parts : (value : List ℕ) (e : Operation) (seq author : ℕ) → length value ≡ 32
-    → put (put (put (put (replicate 45 0) 0 value) 32 (op_bytes e)) 40 (big_endian 4 seq)) 44 (author ∷ [])
-    ≡ value ++ op_bytes e ++ big_endian 4 seq ++ (author ∷ [])
-unfolding op_bytes big_endian
-chain_parts value e seq author h =
-    four_parts (replicate 45 0) value (op_bytes e) 0 32 40 (search rules) (omega arith) refl (big_endian 4 seq) (author ∷ []) 44 45 refl refl
-    ∙ append-nil _
 
 -- ---- digests one after the other, one of them put
 module _ (s v : List ℕ) (i : ℕ) (l : length v ≡ 32) (h : i * 32 + 32 ≤ length s) where

@@ -1,5 +1,5 @@
 -- What a call tells: document 01's number and values for each case of the enums.
-use Rattle.std.specs.Prelude.{ℕ, Bool, ◌&&◌, ◌||◌, leb, Result, Ok, Err}
+use Rattle.std.specs.Prelude.{ℕ, Bool, ◌&&◌, leb, Result, Ok, Err}
 use Rattle.operation.specs.Operation.{Response}
 use Rattle.replica.specs.declared.Refusal.{Refusal}
 use Rattle.replica.specs.declared.Refusal.TheVariants as R

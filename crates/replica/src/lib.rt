@@ -151,7 +151,7 @@ pub fn value_at(c: u32, k: usize, chain: &[u8; CHAIN_LENGTH]) -> [u8; message::D
 pub fn no_current(e: Operation) -> bool
     ensures { result ≡ no_current e }
 {
-    (e.count == 0) & (e.kind == 0) & (e.cell == 0) & (e.amount == 0) & (e.last == 0)
+    e == operation::no_op()
 }
 
 // A fresh state.
