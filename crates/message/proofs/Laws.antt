@@ -5,7 +5,7 @@ use mathlib.Core.List.{List, [], ◌∷◌, ◌++◌, append-nil, append_assoc}
 use mathlib.Core.Bool.{true, ◌&&◌}
 use lib.Dec.{leb, eqb}
 use lib.ListN.{length, take, drop, length-append, length-take, take-append-drop}
-use lib.Seq.{take_at, drop_at}
+use lib.Seq.{take-append_seam, drop-append-add, drop-drop, take_at, drop_at}
 use native.Mathlib.Omega.{arith}
 use borrow.Author.Tests.{leb-true, eqb-true}
 use Rattle.slices.specs.Bytes.{put, big_endian}
@@ -17,6 +17,10 @@ use Rattle.message.specs.declared.Commit.{Commit}
 use Rattle.message.specs.Layout.{invoke_mark, reply_mark, commit_mark, broadcast_mark, digest_at}
 use Rattle.message.specs.Readers.{ItemsFit, none, more}
 use Rattle.message.specs.Message.{invoke_string, commit_string, chain_string, item_bytes, items_bytes, commit_fields, invoke_bytes, reply_bytes, commit_bytes, broadcast_bytes, marked, is_invoke, is_reply, is_commit, is_broadcast, reply_count}
+
+-- ---- parts written one after the other
+pub put_next : (p z s : List ℕ) (n k : ℕ) → length p ≡ n → n + length s ≡ k → put (p ++ drop n z) n s ≡ p ++ s ++ drop k z
+put_next p z s n k e h = rw (← h, ← e, take-append_seam p (drop (length p) z), drop-append-add p (drop (length p) z) (length s), drop-drop)
 
 -- ---- digests one after the other, one of them put
 module _ (s v : List ℕ) (i : ℕ) (l : length v ≡ 32) (h : i * 32 + 32 ≤ length s) where
