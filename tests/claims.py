@@ -77,7 +77,7 @@ class Edit:
             return "statement"
         inside, clause = set(), False
         for line in text_of(crate / first).splitlines():
-            clause = line.lstrip().startswith("ensures") or clause and line != "{"
+            clause = line.lstrip().startswith("ensures") or clause and line.strip() != "{"
             if not line.startswith("ghost use") and any(file == first and old in line for file, old in self.lines):
                 inside.add(clause)
         return "contract" if inside == {True} else "program"
