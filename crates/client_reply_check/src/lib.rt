@@ -69,8 +69,9 @@ pub fn item_check(
     k: usize,
     i: Item,
 ) -> Result<(), Stop>
-    requires { (k < max_pending) × (r.now.confirmed ≤ max_seq) × Right r.now.keys table.old }
-    ensures { (no_of result ≡ first_no 0 (item_checks r.now n k i)) × Right r.now.keys table.new }
+    requires { (k < max_pending) × (r.now.confirmed ≤ max_seq) }
+    ensures checks { Right r.now.keys table.old → no_of result ≡ first_no 0 (item_checks r.now n k i) }
+    ensures right { Right r.now.keys table.old → Right r.now.keys table.new }
 {
     checks::ask(listed_ok(r.confirmed, k, i), Halt::Content)?;
     let s = table.state_of(&r.keys, i.author);

@@ -21,11 +21,14 @@ impl KeyTable {
         KeyTable { states: [None; 9] }
     }
 
-    // A client's state, from the table where it is known, else worked out and kept there.
+    // A client's state, from the table where it is known, else worked out and kept there; no client's for another number.
     pub fn state_of(&mut self, keys: &[u8; message::KEYS_LENGTH], client: u8) -> Keyed
-        requires { (1 ≤ client) × (client ≤ client_count) × Right keys.now self.old }
-        ensures { StateOf keys.now client result × Right keys.now self.new × (kept self.new client ≡ Some result) }
+        ensures right { Right keys.now self.old → Right keys.now self.new }
+        ensures state { Right keys.now self.old → 1 ≤ client → client ≤ client_count → StateOf keys.now client result × (kept self.new client ≡ Some result) }
     {
+        if (client == 0) | (message::CLIENTS < client) {
+            return hmac::keyed_of(&[]);
+        }
         let at = client as usize;
         match self.states[at] {
             Some(state) => state,

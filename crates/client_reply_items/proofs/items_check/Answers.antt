@@ -12,7 +12,7 @@ loop-k-init c = (refl, c.none-table.ensures _)
 
 pub returns-in_err-item_check : goal.returns-in_err-item_check
 returns-in_err-item_check c =
-    let e = c.item_check.ensures.0 in
+    let e = c.item_check.ensures.checks c.loop-k.invariant.1 in
     let s = c.in_err-item_check.was in
     let g = item_stops _ _ _ c.requires.0 _ _ c.item_of-i.ensures c.loop-k.invariant.0 (stops_some _ _ e _ s) (omega (arith, c.loop-k-test.true)) in
     let w = stops_at _ _ e _ s ∙ g in
@@ -21,4 +21,5 @@ returns-in_err-item_check c =
 pub loop-k-preserved : goal.loop-k-preserved
 loop-k-preserved c =
     let e = c.item_check.ensures in
-    (item_goes _ _ _ c.requires.0 _ _ c.item_of-i.ensures c.loop-k.invariant.0 (goes_on _ _ e.0 _ c.in_ok-item_check.was), e.1)
+    let h = c.loop-k.invariant.1 in
+    (item_goes _ _ _ c.requires.0 _ _ c.item_of-i.ensures c.loop-k.invariant.0 (goes_on _ _ (e.checks h) _ c.in_ok-item_check.was), e.right h)
