@@ -3,7 +3,7 @@
 // Definitions: specs/Sends.antt.
 #![tactic(auto)]
 
-ghost use Rattle.std.specs.Prelude.{◌≡◌, length, IsNone};
+ghost use Rattle.std.specs.Prelude.{◌≡◌, length, IsNone, IsSome};
 ghost use Rattle.std.specs.Io.KnownBytes.{Appends};
 ghost use Rattle.output.specs.Sends.{Sends};
 
@@ -25,9 +25,11 @@ pub fn none() -> Sent
     Sent { bytes: 0, failed }
 }
 
-// Prints bytes and counts them, unless a write failed before.
+// Prints bytes and counts them; nothing after a write that failed.
 pub fn send<W: Write>(writer: &mut W, bytes: &[u8], sent: Sent) -> Sent
     ensures sends { Sends sent (length bytes.now) result }
+    ensures silent { IsSome sent.failed → (writer.new ≡ writer.old) × (result ≡ sent) }
+    ensures kept { IsSome result.failed → result.bytes ≡ sent.bytes }
     ensures bytes { IsNone result.failed → Appends (W.contents writer.old) (W.contents writer.new) bytes.now }
 {
     if sent.failed.is_some() {
