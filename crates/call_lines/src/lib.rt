@@ -1,7 +1,9 @@
 // What the programs that run listed calls share: the words of a line, a state in bytes, and printing.
 #![tactic(auto)]
 
-ghost use Rattle.std.specs.Prelude.{◌+◌, ◌≤◌, ◌≡◌, length, take, drop};
+ghost use Rattle.std.specs.Prelude.{◌+◌, ◌≤◌, ◌≡◌, ◌==◌, [], length, take, drop, slice_get};
+ghost use Rattle.std.specs.List.{slice_split};
+ghost use Rattle.std.specs.Option.{unwrap_or};
 
 use std::io::{Print, Read};
 
@@ -29,7 +31,9 @@ pub fn read_full<R: Read>(reader: &mut R, buf: &mut [u8]) -> usize
 // Words of a line
 
 // The word after `k` spaces, empty where there are fewer.
-pub fn nth_word(line: &[u8], k: usize) -> &[u8] {
+pub fn nth_word(line: &[u8], k: usize) -> &[u8]
+    ensures { result.now ≡ unwrap_or (slice_get (slice_split (λ b. b == 32) line.now) k) [] }
+{
     line.split(|b| *b == b' ').nth(k).unwrap_or(&[])
 }
 

@@ -8,7 +8,7 @@ ghost use Rattle.checks.specs.Checks.{first_no};
 ghost use Rattle.replica.specs.Outcome.{no_of};
 ghost use Rattle.replica.specs.Places.{status_at};
 ghost use Rattle.client_reply_check.specs.ReplyChecks.{listed_ok, item_value, item_chain_ok, is_uncommitted, item_checks};
-ghost use Rattle.key_table.specs.KeyTable.{Right};
+ghost use Rattle.key_table.specs.KeyTable.{Right, RightOf};
 
 use key_table::KeyTable;
 use message::Item;
@@ -70,7 +70,7 @@ pub fn item_check(
     i: Item,
 ) -> Result<(), Stop>
     requires { (k < max_pending) × (r.now.confirmed ≤ max_seq) }
-    ensures checks { Right r.now.keys table.old → no_of result ≡ first_no 0 (item_checks r.now n k i) }
+    ensures checks { RightOf r.now.keys table.old i.author → no_of result ≡ first_no 0 (item_checks r.now n k i) }
     ensures right { Right r.now.keys table.old → Right r.now.keys table.new }
 {
     checks::ask(listed_ok(r.confirmed, k, i), Halt::Content)?;

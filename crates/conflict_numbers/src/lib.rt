@@ -53,11 +53,15 @@ impl Gathered {
     }
 }
 
-// How many of the operations are anything to the view.
+// How many of the operations are anything to the view. (A sum: a filter would take a branch for each.)
 pub fn count<V: View>(ops: &[Operation], view: V) -> usize
     ensures { (result ≡ length (parts (V.test view) (V.part view) ops.now)) × (result ≤ length ops.now) }
 {
-    ops.iter().filter(|e| view.part_of(**e).is_some()).count()
+    let mut n = 0;
+    for o in ops {
+        n += usize::from(view.part_of(*o).is_some());
+    }
+    n
 }
 
 // What the operations are to the view.
@@ -76,8 +80,19 @@ pub fn gather<V: View>(ops: &[Operation], view: V) -> Gathered
     Gathered { ops: new, count }
 }
 
-// Whether some interleaving makes an own answer on the cell differ, where its number is `start`. A cell that no own
-// operation or none of the others' touches is passed over.
+// Whether some interleaving makes an own answer on the cell differ, where its number is `start`. A function of its own: it
+// pays at its entry for the two arrays.
+fn conflict_among(cell: u8, start: u8, others: &[Operation], own: &[Operation]) -> bool
+    requires { (length others.now ≤ max_pending) × (length own.now ≤ max_pending) }
+    ensures { (result ≡ true) ↔ Differs value value_response start start (on_cell cell others.now) (on_cell cell own.now) }
+{
+    let view = OnCell { cell };
+    let theirs = gather(others, view);
+    let mine = gather(own, view);
+    conflict_cell::conflict_at(start, theirs.as_slice(), mine.as_slice())
+}
+
+// The same, where a cell that no own operation or none of the others' touches is passed over.
 fn conflict_on(cell: u8, start: u8, others: &[Operation], own: &[Operation]) -> bool
     requires { (length others.now ≤ max_pending) × (length own.now ≤ max_pending) }
     ensures { (result ≡ true) ↔ Differs value value_response start start (on_cell cell others.now) (on_cell cell own.now) }
@@ -89,9 +104,7 @@ fn conflict_on(cell: u8, start: u8, others: &[Operation], own: &[Operation]) -> 
     if count(others, view) == 0 {
         return false;
     }
-    let theirs = gather(others, view);
-    let mine = gather(own, view);
-    conflict_cell::conflict_at(start, theirs.as_slice(), mine.as_slice())
+    conflict_among(cell, start, others, own)
 }
 
 // Whether some interleaving makes an own answer differ, on numbers of the cells.

@@ -14,6 +14,10 @@ StateOf keys n s = s ≡ keyed_of (key_of keys n)
 abbrev pub kept : KeyTable → ℕ → Option Keyed
 kept t n = get_or t.states n None
 
+-- the state that is known of a client, if one is, is that client's
+abbrev pub RightOf : List ℕ → KeyTable → ℕ → Type 0
+RightOf keys t n = (s : Keyed) → kept t n ≡ Some s → 1 ≤ n → n ≤ client_count → StateOf keys n s
+
 -- each client's state that is known is that client's
 pub record Right (keys : List ℕ) (t : KeyTable) : Type 0 where
   pub each : (n : ℕ) (s : Keyed) → kept t n ≡ Some s → 1 ≤ n → n ≤ client_count → StateOf keys n s

@@ -3,7 +3,7 @@
 
 ghost use Rattle.std.specs.Prelude.{◌≡◌, List, ℕ, ◌≤◌, Some};
 ghost use Rattle.message.specs.Layout.{client_count};
-ghost use Rattle.key_table.specs.KeyTable.{Right, StateOf, kept};
+ghost use Rattle.key_table.specs.KeyTable.{Right, RightOf, StateOf, kept};
 
 use hmac::Keyed;
 
@@ -24,7 +24,7 @@ impl KeyTable {
     // A client's state, from the table where it is known, else worked out and kept there; no client's for another number.
     pub fn state_of(&mut self, keys: &[u8; message::KEYS_LENGTH], client: u8) -> Keyed
         ensures right { Right keys.now self.old → Right keys.now self.new }
-        ensures state { Right keys.now self.old → 1 ≤ client → client ≤ client_count → StateOf keys.now client result × (kept self.new client ≡ Some result) }
+        ensures state { RightOf keys.now self.old client → 1 ≤ client → client ≤ client_count → StateOf keys.now client result × (kept self.new client ≡ Some result) }
     {
         if (client == 0) | (message::CLIENTS < client) {
             return hmac::keyed_of(&[]);

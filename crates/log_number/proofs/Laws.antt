@@ -10,22 +10,44 @@ use Rattle.text.specs.Text.{number_of, within, number_within}
 use Rattle.text.proofs.Laws.{within-cap, within_most, within_more, within_is, within_not}
 use Rattle.log_number.specs.Number.{number, warm, cold, temperature}
 
-pub number_short : (s : List ℕ) → length s ≤ 3 → number_within 999 s ≡ within 999 (number s)
+pub number_short : (s : List ℕ) → length s ≤ 3 → number_of 1000 s ≡ number s
 unfolding number
-number_short s h = rw (le-leb (length s) 3 h) (within-cap 1000 999 s (omega arith))
+number_short s h = rw (le-leb (length s) 3 h)
 
-pub number-long : (s : List ℕ) → 3 < length s → within 999 (number s) ≡ None
+pub number-long : (s : List ℕ) → 3 < length s → 1000 ≡ number s
 unfolding number
-number-long s h = rw (lt-leb (length s) 3 h) (within_more 999 1000 (omega arith))
+number-long s h = rw (lt-leb (length s) 3 h)
 
 -- an empty field holds none
-pub number-empty : within 999 (number []) ≡ None
+pub number-empty : number [] ≡ 1000
 unfolding number number_of
-number-empty = within_more 999 1000 (omega arith)
+number-empty = refl
 
-pub temp-empty : within 255 (temperature []) ≡ None
+pub temp-empty : temperature [] ≡ 1000
 unfolding temperature
-temp-empty = within_more 255 1000 (omega arith)
+temp-empty = refl
+
+pub temp_none : (s : List ℕ) → length s ≡ 0 → 1000 ≡ temperature s
+unfolding temperature
+temp_none [] h = refl
+temp_none (b ∷ s) h = absurd (omega (arith, h))
+
+-- the same of values that may be none
+pub short_within : (s : List ℕ) → length s ≤ 3 → number_within 999 s ≡ within 999 (number s)
+unfolding number
+short_within s h = rw (le-leb (length s) 3 h) (within-cap 1000 999 s (omega arith))
+
+pub long_within : (s : List ℕ) → 3 < length s → within 999 (number s) ≡ None
+unfolding number
+long_within s h = rw (lt-leb (length s) 3 h) (within_more 999 1000 (omega arith))
+
+pub number_empty_none : within 999 (number []) ≡ None
+unfolding number number_of
+number_empty_none = within_more 999 1000 (omega arith)
+
+pub temp_empty_none : within 255 (temperature []) ≡ None
+unfolding temperature
+temp_empty_none = within_more 255 1000 (omega arith)
 
 pub warm_in : (n : ℕ) → n ≤ 85 → within 255 (warm n) ≡ Some n
 unfolding warm
@@ -58,18 +80,18 @@ module _ (s : List ℕ) where
   unfolding temperature
   temp-plain b d h e = let g = ne_eqb b 45 e in rw (h, g)
 
-  pub temp_none : length s ≡ 0 → temperature s ≡ warm (number s)
-  temp_none h = none_case s h
+  pub temp_empty_warm : length s ≡ 0 → temperature s ≡ warm (number s)
+  temp_empty_warm h = none_case s h
 
 -- no number after the minus sign
 pub minus_none : (s : List ℕ) (b : ℕ) (d : List ℕ) → s ≡ b ∷ d → b ≡ 45 → within 999 (number d) ≡ None → within 255 (temperature s) ≡ None
 minus_none s b d h e n = let g = within_not 999 (number d) n in rw (temp_minus s b d h e) (cold_out (number d) (omega (arith, g)))
 
 -- what the number of digits says of a number
-pub ruleset number_steps = (number_short, number-long)
+pub ruleset number_steps = (short_within, long_within)
 
 -- what a number is as a temperature
 pub ruleset warm_steps = (warm_in, warm_out, cold_in, cold_out)
 
 -- and what a field is
-pub ruleset temperature_steps = (within_is, within_not, minus_none, temp_minus, temp-plain, temp_none, warm_out, cold_out)
+pub ruleset temperature_steps = (within_is, within_not, minus_none, temp_minus, temp-plain, temp_empty_warm, warm_out, cold_out)

@@ -13,7 +13,7 @@ use Rattle.text.proofs.Laws.{either}
 use Rattle.log_quotes.specs.declared.FieldEnd.{FieldEnd}
 use Rattle.log_quotes.specs.Quotes.{start, fields, EndsAt}
 use Rattle.log_number.specs.Number.{number, temperature}
-use Rattle.log_number.proofs.Laws.{number-empty, temp-empty}
+use Rattle.log_number.proofs.Laws.{number_empty_none, temp_empty_none}
 use Rattle.log_columns.specs.declared.Columns.{Columns}
 use Rattle.log_fields.proofs.Walk.{Counted, counted_none, counted_not, counted-sound, counted_next, counted_here}
 use Rattle.log_values.specs.Values.{under, values_of}
@@ -91,9 +91,9 @@ module _ {c : Columns} {l : List ℕ} {a n : ℕ} {x y z : Option ℕ} (w : Walk
     unfolding values_of
     walked_last g =
         let m = counted-sound f w.counted h g in
-        let x = far_all num l c.cell (n + 1) p number-empty m.1 at_cell in
-        let y = far_all num l c.flow (n + 1) q number-empty m.1 at_flow in
-        let t = far_all temp l c.temp (n + 1) s temp-empty m.1 at_temp in
+        let x = far_all num l c.cell (n + 1) p number_empty_none m.1 at_cell in
+        let y = far_all num l c.flow (n + 1) q number_empty_none m.1 at_flow in
+        let t = far_all temp l c.temp (n + 1) s temp_empty_none m.1 at_temp in
         rw (m.0, m.1, x, y, t)
 
     pub walked_next : (r.end ≡ length l → ⊥) → Walked c l (r.end + 1) (n + 1) p q s

@@ -23,7 +23,8 @@ use Rattle.meter_log_parts.specs.declared.State.{State}
 use Rattle.meter_log_io.specs.declared.InputTold.{InputTold}
 use Rattle.tool.specs.declared.Why.{Why}
 use Rattle.tool.specs.declared.Why.TheVariants as W
-use Rattle.tool.specs.Tool.{why_of}
+use Rattle.tool.specs.Tool.{why_of, is_caused}
+use Rattle.tool.proofs.Laws.{why_caused}
 use Rattle.meter_log_parts.specs.Whole.{held_of, run_at, First, Past, LastTold, Finished}
 use Rattle.meter_log_io.specs.Ran.{Stopped, Ran}
 
@@ -45,7 +46,7 @@ is_ended (B.Failed c) None e g = other (cc e)
 is_ended B.Limit None e g = other (cc e)
 is_ended B.Some None e g = absurd (true≢false (g (λ f. other (cc f))))
 
-why_failed : (b : Brought) (o : Option Error) {d : Error} → why_of b o ≡ W.ReadFailed d → (b ≡ B.Ended → ⊥) × IsNone o
+why_failed : (b : Brought) (o : Option Error) {d : Option Error} → why_of b o ≡ W.ReadFailed d → (b ≡ B.Ended → ⊥) × IsNone o
 unfolding why_of
 why_failed b (Some c) e = other (cc e)
 why_failed B.Ended None e = other (cc e)
@@ -149,4 +150,5 @@ module _
               | inr g ↦ let i = is_limit b sent.failed (sym e ∙ g) in whole-only (limit_not_ended b i.0, i.1)
             ];
         limit = λ h. omega (arith, s.limit (is_limit b sent.failed (sym e ∙ h)).0, r.counted);
+        caused = ap is_caused e ∙ why_caused b sent.failed;
       }

@@ -1,8 +1,9 @@
 -- What the program promises of a whole input, however it comes in parts.
-use Rattle.std.specs.Prelude.{ℕ, ◌+◌, ◌-◌, ◌%◌, ◌^◌, ◌<◌, ◌≤◌, ◌≡◌, List, false, IsNone, is_none, ◌⊎◌, length, take}
+use Rattle.std.specs.Prelude.{ℕ, ◌+◌, ◌-◌, ◌%◌, ◌^◌, ◌<◌, ◌≤◌, ◌≡◌, List, true, false, IsNone, is_none, ◌⊎◌, length, take}
 use Rattle.input.specs.declared.Brought.TheVariants as B
 use Rattle.input.specs.Reads.{goes_on}
 use Rattle.tool.specs.declared.Why.TheVariants as W
+use Rattle.tool.specs.Tool.{is_caused}
 use Rattle.meter_log_lines.specs.Printed.{printed_of, printed_whole}
 use Rattle.meter_log_parts.specs.declared.State.{State}
 use Rattle.std.specs.declared.option.Option.{Option}
@@ -37,6 +38,8 @@ pub record Ran (r : Done) : Type 0 where
   -- where it ended, all that it prints was sent
   pub ended : r.why ≡ W.Ended → r.sent ≡ length (printed_of input) % 2 ^ 64
   -- where it may go on, what its whole lines print
-  pub stopped : ((e : Error) × (r.why ≡ W.ReadFailed e)) ⊎ (r.why ≡ W.Limit) → r.sent ≡ length (printed_whole input) % 2 ^ 64
+  pub stopped : ((e : Option Error) × (r.why ≡ W.ReadFailed e)) ⊎ (r.why ≡ W.Limit) → r.sent ≡ length (printed_whole input) % 2 ^ 64
   -- reading stops by itself only after nearly 2^64 bytes
   pub limit : r.why ≡ W.Limit → 2 ^ 64 - 65537 ≤ length input
+  -- what failed has its cause
+  pub caused : is_caused r.why ≡ true

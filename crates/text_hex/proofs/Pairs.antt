@@ -32,17 +32,30 @@ module _ (c : ℕ) where
       let e : c - 87 ≡ c - 97 + 10 = omega (arith, h) in
       rw (lt-leb c 57 g, le-leb 97 c h, le-leb c 102 k, and-false, le-leb (c - 87) 15 f, e)
 
-  pub value-under : c < 48 → value_of c ≡ None
-  unfolding value_of hex_value
+  pub value-under : c < 48 → hex_value c ≡ 16
+  unfolding hex_value
   value-under h = let g : c < 97 = omega (arith, h) in rw (lt-leb 48 c h, lt-leb 97 c g)
 
-  pub value-between : 57 < c → c < 97 → value_of c ≡ None
-  unfolding value_of hex_value
+  pub value-between : 57 < c → c < 97 → hex_value c ≡ 16
+  unfolding hex_value
   value-between h k = rw (lt-leb c 57 h, lt-leb 97 c k, and-false)
 
-  pub value_over : 102 < c → value_of c ≡ None
-  unfolding value_of hex_value
+  pub value_over : 102 < c → hex_value c ≡ 16
+  unfolding hex_value
   value_over h = let g : 57 < c = omega (arith, h) in rw (lt-leb c 57 g, lt-leb c 102 h, and-false, and-false)
+
+  no_value : hex_value c ≡ 16 → value_of c ≡ None
+  unfolding value_of
+  no_value e = rw e
+
+  pub none-under : c < 48 → value_of c ≡ None
+  none-under h = no_value (value-under h)
+
+  pub none-between : 57 < c → c < 97 → value_of c ≡ None
+  none-between h k = no_value (value-between h k)
+
+  pub none_over : 102 < c → value_of c ≡ None
+  none_over h = no_value (value_over h)
 
   module _ {v : ℕ} (e : Some v ≡ value_of c) where
     both : (leb (hex_value c) 15 ≡ true) × (hex_value c ≡ v)
@@ -61,7 +74,7 @@ module _ (c : ℕ) where
       either (leb (hex_value c) 15) (λ t. absurd (none-some (hex_value c) (e ∙ rw t))) (λ t. leb-false _ 15 t)
 
 -- what a byte's value is found to be
-pub ruleset value_steps = (value_decimal, value_letter, value-under, value-between, value_over)
+pub ruleset value_steps = (value_decimal, value_letter, none-under, none-between, none_over)
 
 -- ---- written
 pub hex_length : (s : List ℕ) → length (hex_of s) ≡ 2 * length s

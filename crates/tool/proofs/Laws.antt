@@ -1,4 +1,4 @@
--- What an argument is, by the tests that led there. Assumes nothing.
+-- What an argument is, by the tests that led there; how reading ended. Assumes nothing.
 use Prim.Native.Nat.{ℕ}
 use mathlib.Core.Path.{◌≡◌, refl, sym, ap, ◌∙◌}
 use mathlib.Core.Bool.{Bool, true, false, ◌&&◌}
@@ -8,9 +8,14 @@ use borrow.Author.Tests.{eq-eqb, ne_eqb}
 use lib.Dec.{eqb}
 use lib.ListN.{length, get_or}
 use lib.Pointwise.{pointwise}
+use Rattle.std.specs.Prelude.{Some, None}
+use Rattle.std.specs.declared.option.Option.{Option}
+use Rattle.std.specs.declared.io.Error.{Error}
 use Rattle.slices.specs.Bytes.{same}
+use Rattle.input.specs.declared.Brought.{Brought}
+use Rattle.input.specs.declared.Brought.TheVariants as B
 use Rattle.tool.specs.declared.Argument.TheVariants as A
-use Rattle.tool.specs.Tool.{kind_of}
+use Rattle.tool.specs.Tool.{kind_of, why_of, is_caused}
 
 same_pointwise : (s t : List ℕ) → same s t ≡ pointwise eqb s t
 unfolding same
@@ -23,9 +28,11 @@ same_pointwise (c ∷ s) (d ∷ t) = ap (λ (b : Bool). eqb c d && b) (same_poin
 pub same_by : (s t u : List ℕ) (b : Bool) → b ≡ pointwise eqb s t → t ≡ u → same s u ≡ b
 same_by s t u b e f = same_pointwise s u ∙ ap (pointwise eqb s) (sym f) ∙ sym e
 
-nothing : (s : List ℕ) → length s ≡ 0 → get_or s 0 0 ≡ 45 → ⊥
-nothing [] e f = omega (arith, f)
-nothing (c ∷ s) e f = omega (arith, e)
+-- an empty one is a file's name
+pub kind_none : (s : List ℕ) → length s ≡ 0 → A.File ≡ kind_of s
+unfolding kind_of same
+kind_none [] e = refl
+kind_none (c ∷ s) e = absurd (omega (arith, e))
 
 module _ (s : List ℕ) where
   pub kind_help : same s (45 ∷ 45 ∷ 104 ∷ 101 ∷ 108 ∷ 112 ∷ []) ≡ true → A.Help ≡ kind_of s
@@ -44,6 +51,11 @@ module _ (s : List ℕ) where
   unfolding kind_of
   kind_file h i e = let q = ne_eqb (get_or s 0 0) 45 e in rw (h, i, q)
 
-  -- of an empty one the first byte counts as 0
-  pub kind_none : same s (45 ∷ 45 ∷ 104 ∷ 101 ∷ 108 ∷ 112 ∷ []) ≡ false → same s (45 ∷ []) ≡ false → length s ≡ 0 → A.File ≡ kind_of s
-  kind_none h i e = kind_file h i (λ f. nothing s e f)
+-- what a read and a write leave has its cause
+pub why_caused : (b : Brought) (o : Option Error) → is_caused (why_of b o) ≡ true
+unfolding is_caused why_of
+why_caused b (Some e) = refl
+why_caused B.Some None = refl
+why_caused B.Ended None = refl
+why_caused (B.Failed e) None = refl
+why_caused B.Limit None = refl

@@ -1,5 +1,5 @@
 -- What arguments are, what they ask, and how the reading of an input ended.
-use Rattle.std.specs.Prelude.{ℕ, ◌≡◌, Bool, true, false, cond, List, [], ◌∷◌, eqb, get_or, Some, None}
+use Rattle.std.specs.Prelude.{ℕ, ◌≡◌, Bool, true, false, cond, List, [], ◌∷◌, eqb, get_or, Some, None, is_some}
 use Rattle.std.specs.declared.option.Option.{Option}
 use Rattle.std.specs.declared.io.Error.{Error}
 use Rattle.slices.specs.Bytes.{same}
@@ -35,11 +35,18 @@ first_of A.File i later = later
 
 -- a write that failed comes before what the last read brought
 unfoldable pub why_of : Brought → Option Error → Why
-why_of b (Some e) = W.WriteFailed e
+why_of b (Some e) = W.WriteFailed (Some e)
 why_of B.Some None = W.Ended
 why_of B.Ended None = W.Ended
-why_of (B.Failed e) None = W.ReadFailed e
+why_of (B.Failed e) None = W.ReadFailed (Some e)
 why_of B.Limit None = W.Limit
+
+-- nothing failed, or the cause of it is known
+unfoldable pub is_caused : Why → Bool
+is_caused W.Ended = true
+is_caused (W.ReadFailed e) = is_some e
+is_caused (W.WriteFailed e) = is_some e
+is_caused W.Limit = true
 
 -- after a write that failed no further input is read
 unfoldable pub next_read : Why → Bool

@@ -144,11 +144,22 @@ pub fn fail<E: Write>(errors: &mut E, what: &[u8], cause: io::Error) {
     write_error(errors, b"\n");
 }
 
+// The same, where the cause may not be known.
+fn fail_by<E: Write>(errors: &mut E, what: &[u8], cause: Option<io::Error>) {
+    match cause {
+        Some(e) => fail(errors, what, e),
+        None => {
+            write_error(errors, what);
+            write_error(errors, b": failed\n");
+        }
+    }
+}
+
 // Tells why a call on what `name` names failed.
-fn fail_name<E: Write>(errors: &mut E, name: &[u8], cause: io::Error) {
+fn fail_name<E: Write>(errors: &mut E, name: &[u8], cause: Option<io::Error>) {
     match kind(name) {
-        Argument::Input => fail(errors, b"standard input", cause),
-        Argument::File | Argument::Help | Argument::Unknown => fail(errors, name, cause),
+        Argument::Input => fail_by(errors, b"standard input", cause),
+        Argument::File | Argument::Help | Argument::Unknown => fail_by(errors, name, cause),
     }
 }
 
@@ -188,7 +199,7 @@ pub fn open<R: Files + Input, E: Write>(
     match open_file(rt, name) {
         Ok(file) => Some(Source::File(file)),
         Err(e) => {
-            fail_name(errors, name, e);
+            fail_name(errors, name, Some(e));
             None
         }
     }
@@ -199,12 +210,12 @@ pub fn close<F: Drop, I: Drop>(source: Source<F, I>) {
     let _ = source;
 }
 
-// How reading an input, and printing what it gives, ended: a read or a write that failed has its cause.
+// How reading an input, and printing what it gives, ended: a read or a write that failed has its cause, where that is known.
 #[derive(Clone, Copy)]
 pub enum Why {
     Ended,
-    ReadFailed(io::Error),
-    WriteFailed(io::Error),
+    ReadFailed(Option<io::Error>),
+    WriteFailed(Option<io::Error>),
     Limit,
 }
 
@@ -222,11 +233,11 @@ pub fn ended_by(brought: Brought, failed: Option<io::Error>) -> Why
     ensures { result ≡ why_of brought failed }
 {
     if let Some(e) = failed {
-        return Why::WriteFailed(e);
+        return Why::WriteFailed(Some(e));
     }
     match brought {
         Brought::Some | Brought::Ended => Why::Ended,
-        Brought::Failed(e) => Why::ReadFailed(e),
+        Brought::Failed(e) => Why::ReadFailed(Some(e)),
         Brought::Limit => Why::Limit,
     }
 }
@@ -239,8 +250,8 @@ pub fn tell<E: Write>(errors: &mut E, name: &[u8], why: Why) -> bool
 {
     match why {
         Why::Ended => {}
-        Why::ReadFailed(e) => fail_name(errors, name, e),
-        Why::WriteFailed(e) => fail(errors, b"standard output", e),
+        Why::ReadFailed(cause) => fail_name(errors, name, cause),
+        Why::WriteFailed(cause) => fail_by(errors, b"standard output", cause),
         Why::Limit => {
             write_error(errors, name);
             write_error(errors, b": no more is read, after nearly 2^64 bytes\n");

@@ -17,7 +17,8 @@ use Rattle.input.specs.Reads.{goes_on, Reads}
 use Rattle.output.specs.declared.Sent.{Sent}
 use Rattle.tool.specs.declared.Why.{Why}
 use Rattle.tool.specs.declared.Why.TheVariants as W
-use Rattle.tool.specs.Tool.{why_of}
+use Rattle.tool.specs.Tool.{why_of, is_caused}
+use Rattle.tool.proofs.Laws.{why_caused}
 use Rattle.trial_core.specs.declared.Trial.{Trial}
 use Rattle.trial_core.specs.Trial.{Lent, start_trial, start_lent}
 use Rattle.trial_core.specs.Moves.{lent_of}
@@ -156,10 +157,10 @@ other : {A : Type 0} → ◌≡◌ {A = ℕ} 0 1 → A
 other e = absurd (omega (arith, e))
 
 -- where a write failed nothing else is said
-why_ok : (br : Brought) (o : Option Error) (w : Why) → why_of br o ≡ w → ((c : Error) → w ≡ W.WriteFailed c → ⊥) → IsNone o
+why_ok : (br : Brought) (o : Option Error) (w : Why) → why_of br o ≡ w → ((c : Option Error) → w ≡ W.WriteFailed c → ⊥) → IsNone o
 unfolding why_of
 why_ok br None w e f = refl
-why_ok br (Some c) w e f = absurd (f c (sym e))
+why_ok br (Some c) w e f = absurd (f _ (sym e))
 
 why_limit : (br : Brought) (o : Option Error) → why_of br o ≡ W.Limit → br ≡ B.Limit
 unfolding why_of
@@ -170,13 +171,13 @@ why_limit B.Ended None e = other (cc e)
 why_limit (B.Failed c) None e = other (cc e)
 
 -- the last line's bytes sent or not, the input ended
-why_again : (br : Brought) (o o' : Option Error) (w : Why) → why_of br o ≡ W.Ended → why_of br o' ≡ w → (w ≡ W.Ended → ⊥) → ((c : Error) → w ≡ W.WriteFailed c → ⊥) → ⊥
+why_again : (br : Brought) (o o' : Option Error) (w : Why) → why_of br o ≡ W.Ended → why_of br o' ≡ w → (w ≡ W.Ended → ⊥) → ((c : Option Error) → w ≡ W.WriteFailed c → ⊥) → ⊥
 unfolding why_of
-why_again br o (Some c) w e f g h = h c (sym f)
+why_again br o (Some c) w e f g h = h _ (sym f)
 why_again br (Some c) None w e f g h = other (cc e)
 why_again br None None w e f g h = g (sym f ∙ e)
 
-ended≢written : (w : Why) → w ≡ W.Ended → (c : Error) → w ≡ W.WriteFailed c → ⊥
+ended≢written : (w : Why) → w ≡ W.Ended → (c : Option Error) → w ≡ W.WriteFailed c → ⊥
 ended≢written w e c f = other (cc (e, f))
 
 -- reading stopped before the end
@@ -191,6 +192,7 @@ ran-short {q} {w = w} k e f =
         sent-whole k.by.reached (why_ok q.brought q.after.sent.failed w (sym e) (λ c h. other (cc (g, h)))),
         omega (arith, k.by.all, k.limit (why_limit q.brought q.after.sent.failed (sym e ∙ g))),
       );
+      caused = ap is_caused e ∙ why_caused q.brought q.after.sent.failed;
     }
 
 -- the input ended, and its last line was answered
@@ -213,4 +215,5 @@ ran-ended {q} {buf = buf} {w = w} {v = v} {s' = s'} k e f d l a y =
       ended = λ g. sent_all (take q.after.held buf) k.by.reached a d.line l (why_ok q.brought s'.failed v (sym y) (ended≢written v g));
       failed = λ c g. absurd (not_other (λ h. other (cc (g, h))) (λ d h. other (cc (g, h))));
       limit = λ g. absurd (not_other (λ h. other (cc (g, h))) (λ d h. other (cc (g, h))));
+      caused = ap is_caused y ∙ why_caused q.brought s'.failed;
     }

@@ -5,10 +5,12 @@ use Rattle.input.specs.Reads.{goes_on}
 use Rattle.output.specs.declared.Sent.{Sent}
 use Rattle.tool.specs.declared.Why.{Why}
 use Rattle.tool.specs.declared.Why.TheVariants as W
+use Rattle.tool.specs.Tool.{is_caused}
 use Rattle.trial_core.specs.declared.Trial.{Trial}
 use Rattle.trial_core.specs.Trial.{Lent}
 use Rattle.trial_lines.specs.Lines.{Run, lines_of}
 use Rattle.trial_io.specs.declared.Reading.{Reading}
+use Rattle.std.specs.declared.option.Option.{Option}
 use Rattle.std.specs.declared.io.Error.{Error}
 use Rattle.tool.specs.declared.Done.{Done}
 use Rattle.trial_io.specs.Printed.{run_of, printed_of, printed_whole}
@@ -62,5 +64,7 @@ pub record Ran (r : Done) : Type 0 where
   pub all : length input ≡ r.total
   -- to the end of the input every line was printed; else every line that a line feed ends; where a write failed nothing is known
   pub ended : r.why ≡ W.Ended → r.sent ≡ length (printed_of input) % 2 ^ 64
-  pub failed : (e : Error) → r.why ≡ W.ReadFailed e → r.sent ≡ length (printed_whole input) % 2 ^ 64
+  pub failed : (e : Option Error) → r.why ≡ W.ReadFailed e → r.sent ≡ length (printed_whole input) % 2 ^ 64
   pub limit : r.why ≡ W.Limit → (r.sent ≡ length (printed_whole input) % 2 ^ 64) × (2 ^ 64 - 65537 ≤ length input)
+  -- what failed has its cause
+  pub caused : is_caused r.why ≡ true

@@ -12,7 +12,7 @@ loop-k-init c = (refl, c.none-table.ensures _)
 
 pub returns-in_err-item_check : goal.returns-in_err-item_check
 returns-in_err-item_check c =
-    let e = c.item_check.ensures.checks c.loop-k.invariant.1 in
+    let e = c.item_check.ensures.checks (c.loop-k.invariant.1.each _) in
     let s = c.in_err-item_check.was in
     let g = item_stops _ _ _ c.requires.0 _ _ c.item_of-i.ensures c.loop-k.invariant.0 (stops_some _ _ e _ s) (omega (arith, c.loop-k-test.true)) in
     let w = stops_at _ _ e _ s ∙ g in
@@ -22,4 +22,4 @@ pub loop-k-preserved : goal.loop-k-preserved
 loop-k-preserved c =
     let e = c.item_check.ensures in
     let h = c.loop-k.invariant.1 in
-    (item_goes _ _ _ c.requires.0 _ _ c.item_of-i.ensures c.loop-k.invariant.0 (goes_on _ _ (e.checks h) _ c.in_ok-item_check.was), e.right h)
+    (item_goes _ _ _ c.requires.0 _ _ c.item_of-i.ensures c.loop-k.invariant.0 (goes_on _ _ (e.checks (h.each _)) _ c.in_ok-item_check.was), e.right h)

@@ -1,16 +1,32 @@
-use Rattle.std.proofs.Common.{Bool, true, false, cond, ◌≡◌, ◌∙◌, refl, arith, rules, tests, Some, None, is_some}
-use Rattle.std.proofs.lemmas.Iterator.{YieldsList-from_slice}
-use Rattle.std.proofs.lemmas.Iterator.Consumers.{YieldsList-from_filter, count_from_yields_List}
+use Rattle.std.proofs.Common.{Bool, true, false, cond, ◌≡◌, ◌∙◌, refl, sym, ap, arith, Option, Some, None, is_some, ℕ, ◌+◌, ◌≤◌, ◌<◌, List, [], ◌∷◌, length, take}
+use lib.ListN.{get_or, length-append}
+use mir.Val.{bool_byte}
 use Rattle.operation.specs.declared.Operation.{Operation}
-use Rattle.conflict_numbers.proofs.Parts.{filter_parts, filter_short}
+use Rattle.operation.specs.Operation.{no_op}
+use Rattle.conflict_numbers.specs.Numbers.{parts}
+use Rattle.conflict_numbers.proofs.Parts.{in_take, out_take}
 use Rattle.conflict_numbers.proofs.count.Goals as goal
 
-some_if : (b : Bool) (x : Operation) → is_some (cond b (Some x) None) ≡ b
-some_if true x = refl
-some_if false x = refl
+byte_most : (b : Bool) → bool_byte b ≤ 1
+byte_most true = omega arith
+byte_most false = omega arith
 
-pub returns : goal.returns
-returns g c =
-    let test = g.V.View.test c.args.view in
-    let e = count_from_yields_List c.filter.result c.count.result c.count.ensures.ran (YieldsList-from_filter _ test (YieldsList-from_slice c.args.ops.now cc) c.filter.ensures.closure (λ x r q k. search (rules, tests, some_if))) in
-    (e ∙ filter_parts test (g.V.View.part c.args.view) c.args.ops.now, omega (arith, e, filter_short test c.args.ops.now))
+-- One operation more counts just where it passes the test.
+module _ (test : Operation → Bool) (part : Operation → Operation) (ops : List Operation) (i n : ℕ) (h : i < length ops) (e : n ≡ length (parts test part (take i ops))) where
+  one_more : (b : Bool) (x : Operation) → test (get_or ops i no_op) ≡ b → n + bool_byte (is_some (cond b (Some x) None)) ≡ length (parts test part (take (i + 1) ops))
+  one_more true x t =
+      let l = length-append (parts test part (take i ops)) (part (get_or ops i no_op) ∷ []) in
+      rw (in_take test part ops i h t) (omega (arith, e, l))
+  one_more false x t = rw (out_take test part ops i h t) (omega (arith, e))
+
+pub loop-o-init : goal.loop-o-init
+unfolding parts
+loop-o-init g c = (omega arith, refl)
+
+pub loop-o-preserved : goal.loop-o-preserved
+loop-o-preserved g c =
+    let l = c.loop-o in
+    let a = c.from-n.ensures ∙ ap bool_byte (c.is_some.ensures ∙ ap is_some c.part_of.ensures) in (
+      omega (arith, l.invariant.0, c.from-n.ensures, byte_most c.is_some.result),
+      ap (λ x. l.n + x) a ∙ one_more (g.V.View.test c.args.view) (g.V.View.part c.args.view) c.args.ops.now l.o-index l.n c.loop-o-test.true l.invariant.1 _ _ refl,
+    )

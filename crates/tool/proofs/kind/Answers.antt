@@ -18,5 +18,5 @@ returns c =
     let i = same_by _ _ _ _ c.eq-2.ensures c.as_slice-2.ensures ∙ c.if-eq-2.false in
     elim c.else-not-is_empty.branch [
       | else-not-is_empty-via-then-not-is_empty+else-arg-eq45 w ↦ kind_file _ h i w.if-arg-eq45.false
-      | else-not-is_empty-via-else-not-is_empty w ↦ kind_none _ h i (search rules)
+      | else-not-is_empty-via-else-not-is_empty w ↦ kind_none _ (search rules)
     ]
